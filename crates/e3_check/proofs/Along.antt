@@ -29,18 +29,18 @@ use Rattle.e3_world.proofs.Guards.{guard_step}
 use Rattle.e3_world.proofs.InTrail.{pending_sent}
 use Rattle.e3_world.proofs.Pushes.{past_push, log_push, legal_push, legal_front}
 use Rattle.e3_world.proofs.Readings.{own_same, up_same}
-use Rattle.e3_law_steps.specs.Bounds.{SuitsLog, GoesBetween, Suits}
-use Rattle.e3_law_steps.specs.Trails.{AllDiffer, tail_records}
-use Rattle.e3_law_steps.proofs.Each.{each-append, each-left, each-right, each-at, each-weaker}
-use Rattle.e3_law_steps.proofs.Suits.Holding.{legal_holds}
-use Rattle.e3_law_steps.proofs.Sound.Clocks.{says_records, due_says, fall_of_txn}
-use Rattle.e3_law_steps.proofs.Suits.Laws.{go_between, records_suit, inputs_suit, names_apart}
-use Rattle.e3_law_steps.proofs.Operations.Tracing.{OfTxn}
-use Rattle.e3_law_steps.specs.Mentions.{Mention, OfTxn as Transaction, OfVal, of_input, of_message, of_record, of_event, begun_in, values_of, Stands}
-use Rattle.e3_law_steps.proofs.Begun.Lists.{each-unflat, each-within}
-use Rattle.e3_law_steps.proofs.Begun.Laws.{guard_at, entries_mention, packets_own}
-use Rattle.e3_law_steps.proofs.Begun.Begins.{IsOf, begun_all}
-use Rattle.e3_lines.specs.Marks.{feed}
+use Rattle.e3_laws.specs.steps.Bounds.{SuitsLog, GoesBetween, Suits}
+use Rattle.e3_laws.specs.steps.Trails.{AllDiffer, tail_records}
+use Rattle.e3_laws.proofs.steps.Each.{each-append, each-left, each-right, each-at, each-weaker}
+use Rattle.e3_laws.proofs.steps.Suits.Holding.{legal_holds}
+use Rattle.e3_laws.proofs.steps.Sound.Clocks.{says_records, due_says, fall_of_txn}
+use Rattle.e3_laws.proofs.steps.Suits.Laws.{go_between, records_suit, inputs_suit, names_apart}
+use Rattle.e3_laws.proofs.steps.Operations.Tracing.{OfTxn}
+use Rattle.e3_laws.specs.steps.Mentions.{Mention, OfTxn as Transaction, OfVal, of_input, of_message, of_record, of_event, begun_in, values_of, Stands}
+use Rattle.e3_laws.proofs.steps.Begun.Lists.{each-unflat, each-within}
+use Rattle.e3_laws.proofs.steps.Begun.Laws.{guard_at, entries_mention, packets_own}
+use Rattle.e3_laws.proofs.steps.Begun.Begins.{IsOf, begun_all}
+use Rattle.e3_report.specs.lines.Marks.{feed}
 use Rattle.e3_trace.specs.Fields.{Known}
 use Rattle.e3_trace.specs.Tellable.{lacks, InputTells, ActTells, known_outs, known_events, known_act, TellsAfter}
 use Rattle.e3_check.specs.Traces.{ValuesAreLines, LegalAreTellable}
@@ -48,7 +48,7 @@ use Rattle.e3_check.specs.Typed.{InputTyped, ActTyped, AreTyped}
 use Rattle.e3_check.proofs.Knowing.{begun_of, PacketFound, Knows, Below, Among, Heard, outs_known, numbered_low, among_found, events_heard, begun_has, trail_begins}
 use Rattle.e3_check.proofs.Partitions.{due_parts}
 use Rattle.e3_check.proofs.Telling.{Found, InputIs, HasSites, input_tells, records_tell, outs_tell}
-use Rattle.e3_law_steps.proofs.Moving.{sent_push}
+use Rattle.e3_laws.proofs.steps.Moving.{sent_push}
 
 -- what is known behind the lines of a history
 record Along (h : List Entry) (known : Known) : Type 0 where

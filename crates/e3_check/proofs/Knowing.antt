@@ -17,11 +17,11 @@ use Rattle.e3_world.specs.Items.{began_in}
 use Rattle.e3_world.specs.Legal.{numbered}
 use Rattle.e3_world.specs.Moves.{Past, Tail, own_entries, past_of, moves_of_act, kept_moves, trail_after, trail_of}
 use Rattle.e3_world.specs.Sound.{tells}
-use Rattle.e3_law_steps.specs.Trails.{begun_by, DifferInName, AllDiffer}
-use Rattle.e3_law_steps.proofs.Each.{each-push, each-filter, each-at, each-weaker, each-right}
-use Rattle.e3_law_steps.specs.Mentions.{Mention, OfTxn, OfVal, of_event, begun_in, WasBegun}
-use Rattle.e3_law_steps.proofs.Begun.Lists.{each-unflat, each-join, each-within}
-use Rattle.e3_lines.specs.Marks.{feed}
+use Rattle.e3_laws.specs.steps.Trails.{begun_by, DifferInName, AllDiffer}
+use Rattle.e3_laws.proofs.steps.Each.{each-push, each-filter, each-at, each-weaker, each-right}
+use Rattle.e3_laws.specs.steps.Mentions.{Mention, OfTxn, OfVal, of_event, begun_in, WasBegun}
+use Rattle.e3_laws.proofs.steps.Begun.Lists.{each-unflat, each-join, each-within}
+use Rattle.e3_report.specs.lines.Marks.{feed}
 use Rattle.e3_trace.specs.Fields.{Known, TxnName, txn_from, name_cmp, named, packet_at, known_sent, known_told}
 use Rattle.e3_trace.specs.Tellable.{lacks, known_outs, known_events, EventsTell}
 use Rattle.e3_check.specs.Typed.{EventTyped}

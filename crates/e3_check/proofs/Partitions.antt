@@ -14,7 +14,7 @@ use Rattle.e3_world.specs.Given.{IsGiven, ItemsSoFar, is_group, is_partition, wi
 use Rattle.e3_world.specs.Legal.{IsParts, parts_due}
 use Rattle.e3_world.specs.Packets.{sites_to, all_sites, items_or, step_items, present_items, lines}
 use Rattle.e3_trace.specs.Tellable.{is_some_set, AreParts}
-use Rattle.e3_law_steps.proofs.Each.{IfAny}
+use Rattle.e3_laws.proofs.steps.Each.{IfAny}
 
 -- a part of the network that has a site
 abbrev IsPart : List ℕ → Type 0

@@ -3,12 +3,12 @@ use Rattle.std.proofs.Common.{◌≡◌, ◌++◌, ◌∷◌, [], ℕ, true, Lis
 use Rattle.std.specs.Prelude.{bytes_eq, codes}
 use Rattle.std.specs.List.{flat_map, AllByRecursion as Each}
 use Rattle.e3_types.specs.declared.entries.Entry.{Entry}
-use Rattle.e3_lines.specs.Texts.{line_end}
+use Rattle.e3_report.specs.lines.Texts.{line_end}
 use Rattle.e3_report.specs.Report.{trace_lines}
 use Rattle.e3_scenario.specs.Scenarios.{scenario_of}
 use Rattle.e3_scenario.proofs.GivenLaws.{given_scenario}
 use Rattle.e3_check.specs.Traces.{printed, LegalTracesReadBack}
-use Rattle.e3_lines.specs.Marks.{feed, pieces}
+use Rattle.e3_report.specs.lines.Marks.{feed, pieces}
 use Rattle.e3_trace.specs.Tellable.{ended_line, IsBefore}
 use Rattle.e3_trace.specs.Trace.{front_of}
 use Rattle.e3_trace.proofs.Cutting.{pieces_join}

@@ -25,12 +25,12 @@ use Rattle.e3_scenario.specs.Parts.{name_of, value_of, site_of, sites_of, key_of
 use Rattle.e3_scenario.specs.Scenarios.{or_range, repeat_with, numbers_in, base_in, no_items_yet, fields_in, by_kind, by_document, scenario_of}
 use Rattle.e3_scenario.specs.Steps.{and_read, or_fault, judged, item_in, StepSoFar, items_read, read_of, step_read, steps_read}
 use Rattle.e3_scenario.specs.Words.{is_printable, before, after, rest, word}
-use Rattle.e3_lines.specs.Marks.{space}
-use Rattle.e3_law_steps.proofs.Each.{each-append, each-push, each-map, IfAny}
-use Rattle.e3_law_steps.specs.Mentions.{values_in}
-use Rattle.e3_law_steps.proofs.Begun.Lists.{each-join}
+use Rattle.e3_report.specs.lines.Marks.{space}
+use Rattle.e3_laws.proofs.steps.Each.{each-append, each-push, each-map, IfAny}
+use Rattle.e3_laws.specs.steps.Mentions.{values_in}
+use Rattle.e3_laws.proofs.steps.Begun.Lists.{each-join}
 use Rattle.e3_check.specs.Traces.{ValuesAreLines}
-use Rattle.e3_lines.specs.Marks.{feed}
+use Rattle.e3_report.specs.lines.Marks.{feed}
 use Rattle.e3_trace.specs.Tellable.{lacks}
 use Rattle.e3_trace.proofs.Cutting.{lacks_by}
 

@@ -3,9 +3,9 @@ use Rattle.std.proofs.Common.{◌≡◌, ◌≤◌, ◌++◌, ℕ, List, Ok, ap,
 use Rattle.std.specs.Prelude.{codes}
 use Rattle.std.specs.List.{flat_map}
 use Rattle.e3_types.specs.declared.entries.Entry.{Entry}
-use Rattle.e3_lines.specs.Texts.{line_end}
+use Rattle.e3_report.specs.lines.Texts.{line_end}
 use Rattle.e3_report.specs.Report.{trace_lines}
-use Rattle.e3_lines.specs.Entries.{trace_of}
+use Rattle.e3_report.specs.lines.Entries.{trace_of}
 use Rattle.e3_trace.specs.Tellable.{ended_line, text_of, TracesReadBack}
 use Rattle.e3_trace.specs.Trace.{history_of}
 use Rattle.e3_check.specs.Traces.{printed, LegalTracesReadBack}

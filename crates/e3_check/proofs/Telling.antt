@@ -20,12 +20,12 @@ use Rattle.e3_types.specs.declared.transactions.Op.TheVariants.{Read, Write}
 use Rattle.e3_types.specs.declared.transactions.Txn.{Txn}
 use Rattle.e3_types.specs.Sets.{is_set, has_site}
 use Rattle.e3_world.specs.Logs.{key_of}
-use Rattle.e3_law_steps.specs.Bounds.{SuitsLog, IsHere as OpIsHere}
-use Rattle.e3_law_steps.proofs.Operations.Tracing.{OfTxn}
-use Rattle.e3_law_steps.proofs.Each.{each-weaker}
-use Rattle.e3_law_steps.specs.Mentions.{Mention, OfTxn as Transaction, OfVal, of_op, of_answer, of_message, of_input, of_record, of_refusal, of_event}
-use Rattle.e3_law_steps.proofs.Begun.Lists.{each-unflat}
-use Rattle.e3_lines.specs.Marks.{feed}
+use Rattle.e3_laws.specs.steps.Bounds.{SuitsLog, IsHere as OpIsHere}
+use Rattle.e3_laws.proofs.steps.Operations.Tracing.{OfTxn}
+use Rattle.e3_laws.proofs.steps.Each.{each-weaker}
+use Rattle.e3_laws.specs.steps.Mentions.{Mention, OfTxn as Transaction, OfVal, of_op, of_answer, of_message, of_input, of_record, of_refusal, of_event}
+use Rattle.e3_laws.proofs.steps.Begun.Lists.{each-unflat}
+use Rattle.e3_report.specs.lines.Marks.{feed}
 use Rattle.e3_trace.specs.Fields.{Known, named, packet_at, known_sent}
 use Rattle.e3_trace.specs.Tellable.{IsShort, lacks, is_some_set, IsBegun, IsOp, IsAnswer, InputTells, MessageTells, RefusalTells, EventTells, IsVoteOp, RecordTells, OutsTell}
 use Rattle.e3_check.specs.Typed.{IsTyped, OpTyped, NumOpTyped, AnswerTyped, MessageTyped, PacketTyped, InputTyped, RecordTyped, RefusalTyped, EventTyped}

@@ -5,8 +5,8 @@ use Rattle.e3_types.specs.declared.entries.Entry.{Entry}
 use Rattle.e3_types.specs.declared.scenarios.Scenario.{Scenario}
 use Rattle.e3_world.specs.Given.{IsGiven}
 use Rattle.e3_world.specs.Legal.{IsLegal}
-use Rattle.e3_law_agreement.specs.Claims.{HistoriesAgree, HistoriesVote, HistoriesToldStand}
-use Rattle.e3_law_serial.specs.Claims.{LegalSerial}
+use Rattle.e3_laws.specs.agreement.Claims.{HistoriesAgree, HistoriesVote, HistoriesToldStand}
+use Rattle.e3_laws.specs.serial.Claims.{LegalSerial}
 use Rattle.e3_judge.specs.Checks.{first_breach, is_whole}
 use Rattle.e3_judge.specs.Claims.{NoBreachIsLegal, BreachIsBroken, WholeIsWhole}
 use Rattle.e3_judge.specs.declared.breach.Breach.{Breach}

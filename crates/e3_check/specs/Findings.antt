@@ -9,7 +9,7 @@ use Rattle.e3_judge.specs.declared.breach.Breach.{Breach}
 use Rattle.e3_scenario.specs.Faults.{fault_text}
 use Rattle.e3_scenario.specs.Scenarios.{scenario_of}
 use Rattle.e3_scenario.specs.declared.faults.ScenarioFault.{ScenarioFault}
-use Rattle.e3_lines.specs.Marks.{feed, pieces}
+use Rattle.e3_report.specs.lines.Marks.{feed, pieces}
 use Rattle.e3_trace.specs.Trace.{front_of, history_of}
 use Rattle.e3_trace.specs.declared.faults.TraceFault.{TraceFault}
 use Rattle.e3_trace.specs.declared.faults.TraceFault.TheVariants as trace

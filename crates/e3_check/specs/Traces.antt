@@ -5,9 +5,9 @@ use Rattle.e3_types.specs.declared.entries.Entry.{Entry}
 use Rattle.e3_types.specs.declared.scenarios.Scenario.{Scenario}
 use Rattle.e3_world.specs.Given.{IsGiven}
 use Rattle.e3_world.specs.Legal.{IsLegal}
-use Rattle.e3_law_steps.specs.Mentions.{values_of}
+use Rattle.e3_laws.specs.steps.Mentions.{values_of}
 use Rattle.e3_report.specs.Report.{trace_lines}
-use Rattle.e3_lines.specs.Marks.{feed}
+use Rattle.e3_report.specs.lines.Marks.{feed}
 use Rattle.e3_trace.specs.Tellable.{lacks, ended_line, IsBefore, IsTellable}
 use Rattle.e3_trace.specs.Trace.{history_of}
 use Rattle.e3_check.specs.Typed.{AreTyped}

@@ -6,10 +6,10 @@ ghost use Rattle.e3_trace.specs.Trace.{history_of};
 
 use crate::texts::finding_text;
 use crate::traces::legal_traces_read_back;
-use e3_audit::{Audited, audit};
+use e3_judge::audit::{Audited, audit};
 use e3_judge::{Breach, checks_are_exact};
-use e3_law_agreement::histories_agree;
-use e3_law_serial::one_order;
+use e3_laws::agreement::histories_agree;
+use e3_laws::serial::one_order;
 use e3_scenario::{ScenarioFault, read_scenario};
 use e3_trace::{TraceFault, before_mark, read_trace};
 use e3_types::{List, NoMemory, Scenario};

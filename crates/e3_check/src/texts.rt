@@ -4,7 +4,7 @@ ghost use Rattle.e3_check.specs.Findings.{finding_text, illegal_text, legal_text
 
 use crate::checking::Finding;
 use e3_judge::Breach;
-use e3_lines::{push_labelled, push_line, push_text};
+use e3_report::lines::{push_labelled, push_line, push_text};
 use e3_scenario::fault_line;
 use e3_trace::TraceFault;
 use e3_types::{List, NoMemory};
@@ -16,7 +16,7 @@ fn whole_text(whole: bool) -> &'static str
     if whole { " whole" } else { "" }
 }
 
-#[tactic(auto, unfolding(crate::specs::Findings::legal_text, e3_lines::specs::Texts::line_end))]
+#[tactic(auto, unfolding(crate::specs::Findings::legal_text, e3_report::specs::lines::Texts::line_end))]
 fn push_legal(out: &mut List<u8>, count: u64, whole: bool) -> Result<(), NoMemory>
     ensures { OnOk result (out.new ≡ out.old ++ legal_text count whole) }
 {
@@ -24,7 +24,7 @@ fn push_legal(out: &mut List<u8>, count: u64, whole: bool) -> Result<(), NoMemor
     push_line(out, whole_text(whole))
 }
 
-#[tactic(auto, unfolding(crate::specs::Findings::illegal_text, e3_lines::specs::Texts::line_end))]
+#[tactic(auto, unfolding(crate::specs::Findings::illegal_text, e3_report::specs::lines::Texts::line_end))]
 fn push_illegal(out: &mut List<u8>, breach: Breach) -> Result<(), NoMemory>
     ensures { OnOk result (out.new ≡ out.old ++ illegal_text breach) }
 {

@@ -1,4 +1,4 @@
--- An answer that is due is one to an operation that was issued.
+-- An answer that is awaited is one to an operation that was issued.
 use Rattle.std.proofs.Common.{◌≡◌, ℕ, zero, suc, ◌≤◌, true, List, length, refl, arith}
 use Rattle.std.specs.Prelude.{Option, Some, None, slice_get}
 use Rattle.std.proofs.lemmas.Bool.{and_parts}

@@ -3,8 +3,8 @@ use Rattle.std.proofs.Common.{◌≡◌, ◌≢◌, ◌≤◌, ◌==◌, ◌++�
 use Rattle.std.specs.Prelude.{Result, Ok, Err, OnOk, OnErr, IfOk, Option, ◌↔◌, find}
 use Rattle.std.proofs.lemmas.List.Elements.{All-nil, All-cons}
 use Rattle.e3_fleet.specs.Fleets.{HasDriven, drop_answer, wire_answer}
-use Rattle.e3_law_local.specs.Least.{IsLeastTo}
-use Rattle.e3_law_local.proofs.Least.{first_is_least}
+use Rattle.e3_laws.specs.local.Least.{IsLeastTo}
+use Rattle.e3_laws.proofs.local.Least.{first_is_least}
 use Rattle.e3_node.specs.SharedStands.{SharedStands}
 use Rattle.e3_node.proofs.Sharing.{no_growth, under, used_is}
 use Rattle.e3_play.specs.declared.sites.RunFault.{RunFault}

@@ -4,8 +4,8 @@ use Rattle.std.specs.Prelude.{All, slice_get, slice_index_or, slice_set, option_
 use Rattle.std.proofs.lemmas.List.Elements.{All-head}
 use Rattle.std.proofs.lemmas.Option.{slice_get-get_or, slice_get-map}
 use Rattle.atomic_table.specs.Seated.{TableId}
-use Rattle.e3_crew.specs.Crews.{IsAtRest, IsCrew}
-use Rattle.e3_crew.specs.declared.worker.Worker.{Worker}
+use Rattle.e3_fleet.specs.crew.Crews.{IsAtRest, IsCrew}
+use Rattle.e3_fleet.specs.declared.crew.worker.Worker.{Worker}
 use Rattle.e3_disk.specs.Meaning.{Meaning}
 use Rattle.e3_fleet.specs.Fleets.{FleetIsHeld, FleetStands, IsFleetOn, IsTaken, nodes_of}
 use Rattle.e3_node.specs.NodeStands.{NodeStands}

@@ -1,6 +1,6 @@
 -- What the numbers of a site's disk came to over a batch.
 use Rattle.std.proofs.Common.{◌≡◌, ◌==◌, inl, ◌≤◌, ◌++◌, ◌∷◌, [], ℕ, zero, suc, true, List, length, refl, sym, ap, subst, ◌∙◌, arith, eq-eqb}
-use Rattle.e3_crew.specs.Turns.{AreStepsBy, IsFallOver}
+use Rattle.e3_fleet.specs.crew.Turns.{AreStepsBy, IsFallOver}
 use Rattle.e3_disk.specs.Meters.{IsCounted, Keeps, Meters, HasFailed}
 use Rattle.e3_fleet.specs.Fleets.{HasKept, HasKeptWith}
 use Rattle.e3_fleet.specs.Over.{HadNoRoom, HadNoRooms, is_fault}

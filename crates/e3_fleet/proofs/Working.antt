@@ -3,9 +3,9 @@ use Rattle.std.proofs.Common.{◌≡◌, ◌≢◌, ◌==◌, inl, inr, ◌⊎�
 use Rattle.std.specs.Prelude.{slice_get, slice_index_or}
 use Rattle.std.proofs.lemmas.Option.{get_or_from_slice_get, slice_get_within}
 use Rattle.atomic_table.specs.Seated.{TableId}
-use Rattle.e3_crew.specs.Crews.{HasGoneOn, IsCrew}
-use Rattle.e3_crew.specs.Turns.{AtStart, BehindFall, BehindFallOver, BehindOthers, BehindStep, BehindSteps, IsFallBy, IsStepBy, WentOn}
-use Rattle.e3_crew.specs.declared.worker.Worker.{Worker}
+use Rattle.e3_fleet.specs.crew.Crews.{HasGoneOn, IsCrew}
+use Rattle.e3_fleet.specs.crew.Turns.{AtStart, BehindFall, BehindFallOver, BehindOthers, BehindStep, BehindSteps, IsFallBy, IsStepBy, WentOn}
+use Rattle.e3_fleet.specs.declared.crew.worker.Worker.{Worker}
 use Rattle.e3_disk.specs.Meaning.{Meaning}
 use Rattle.e3_disk.specs.Meters.{IsCounted, Keeps, LAST, Meters, raised}
 use Rattle.e3_fleet.specs.Fleets.{FleetStands, HasKept, HaveKept, IsFleetOn, Seated, nodes_of}
@@ -19,7 +19,7 @@ use Rattle.e3_fleet.proofs.Places.{get_some}
 use Rattle.e3_fleet.proofs.Rooms.{rooms_push}
 use Rattle.e3_fleet.proofs.Together.{batch_kept, batch_rooms, fall_kept, fall_rooms}
 use Rattle.e3_fleet.proofs.Numbers.{goes_other}
-use Rattle.e3_law_local.specs.Others.{AreOthers}
+use Rattle.e3_laws.specs.local.Others.{AreOthers}
 use Rattle.e3_node.specs.Ends.{FellOver, is_fall}
 use Rattle.e3_site_log.specs.Ends.{IsReason}
 use Rattle.e3_node.specs.NodeStands.{NodeStands}

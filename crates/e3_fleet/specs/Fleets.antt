@@ -1,7 +1,7 @@
 -- The nodes of all sites, and what is always true of them.
 use Rattle.std.specs.Prelude.{◌≡◌, ◌+◌, ◌≤◌, ◌<◌, ◌↔◌, ◌++◌, ◌∷◌, [], ℕ, suc, false, List, length, map, slice_get, Option, Some, Result, Ok, Err, OnOk, OnErr}
 use Rattle.atomic_table.specs.Seated.{TableId}
-use Rattle.e3_crew.specs.declared.worker.Worker.{Worker}
+use Rattle.e3_fleet.specs.declared.crew.worker.Worker.{Worker}
 use Rattle.e3_disk.specs.Meaning.{Meaning}
 use Rattle.e3_disk.specs.Meters.{Meters, LAST}
 use Rattle.e3_fleet.specs.Over.{HadNoRooms, HasServed}

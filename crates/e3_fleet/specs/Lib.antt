@@ -3,3 +3,4 @@ pub mod Over
 pub mod Fleets
 pub mod MemoryDisks
 pub mod Settling
+pub mod crew

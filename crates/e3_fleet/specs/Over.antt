@@ -37,7 +37,7 @@ is_fault e = by e.act
 abbrev pub faults_at : List Entry → ℕ → ℕ
 faults_at history site = count_by is_fault (own_entries site history)
 
--- the count rose so often at least, or stands at its last value
+-- the count grew by so much at least, or stands at its last value
 abbrev pub HasGrownBy : ℕ → ℕ → ℕ → Type 0
 HasGrownBy times before now = (before + times ≤ now) ⊎ (now ≡ LAST)
 

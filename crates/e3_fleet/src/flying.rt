@@ -13,12 +13,12 @@ ghost use Rattle.e3_world.specs.Given.{IsGiven};
 ghost use Rattle.e3_world.specs.Legal.{IsLegal, IsWhole};
 
 use crate::counting::{disks_are_counted, have_halves};
+use crate::crew::Worker;
 use crate::fleet::Fleet;
 use crate::held::Held;
 use crate::pace::Pace;
 use crate::playing::play;
 use crate::seating::{seat_all, unseat_all};
-use e3_crew::Worker;
 use e3_disk::{Disk, Drill};
 use e3_node::a_node_tells_of_its_disk;
 use e3_outside::Gate;

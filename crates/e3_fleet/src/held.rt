@@ -14,8 +14,8 @@ ghost use Rattle.e3_world.specs.Items.{add_txn, is_up_at, open_at};
 ghost use Rattle.e3_world.specs.Legal.{IsCut, IsDue, IsLine, IsRising};
 ghost use Rattle.e3_world.specs.Packets.{step_items};
 
+use crate::crew::Worker;
 use crate::driving::enter_line;
-use e3_crew::Worker;
 use e3_disk::{Disk, Drill};
 use e3_node::{CutFault, InputFault, RiseFault, other_entries_keep_nodes};
 use e3_play::RunFault;

@@ -1,7 +1,9 @@
-//! The sites of a run, each over a disk of its own, as the driver plays them by workers that are at work side by side.
+//! The sites of a run, each over a disk of its own, as the driver plays them by workers that are at work side by side. What
+//! the workers do stands in `crew`.
 #![tactic(auto)]
 
 mod counting;
+pub mod crew;
 mod driving;
 mod fleet;
 mod flying;

@@ -3,7 +3,7 @@ ghost use Rattle.std.specs.Prelude.{◌≡◌, ◌≤◌, ◌<◌, ◌+◌, ◌+
 ghost use Rattle.e3_fleet.specs.Fleets.{AreSeated, disks_of, nodes_of};
 ghost use Rattle.e3_fleet.specs.Over.{AreBlank};
 
-use e3_crew::Worker;
+use crate::crew::Worker;
 use e3_disk::{Disk, Drill};
 use e3_node::Node;
 use e3_readings::rows_at;

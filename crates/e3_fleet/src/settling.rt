@@ -11,10 +11,10 @@ ghost use Rattle.e3_world.specs.Packets.{lines, pending, present_items};
 ghost use Rattle.e3_world.specs.Progress.{Delivering};
 
 use crate::counting::disks_are_counted;
+use crate::crew::settle;
 use crate::fleet::Fleet;
 use crate::held::Held;
 use core::mem::replace_with;
-use e3_crew::settle;
 use e3_disk::{Disk, Drill};
 use e3_outside::Gate;
 use e3_play::RunFault;

@@ -22,8 +22,8 @@ mod pace;
 mod standing;
 mod texts;
 
-use e3_lines::Page;
 use e3_outside::StdSource;
+use e3_report::lines::Page;
 use given::{Asked, Given};
 use std::alloc::Global;
 use std::env;

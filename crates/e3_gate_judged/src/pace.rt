@@ -10,8 +10,8 @@ mod playing;
 mod rising;
 
 use course::{Course, MOST};
-use e3_lines::Page;
 use e3_outside::Source;
+use e3_report::lines::Page;
 use e3_report::report;
 use e3_types::NoMemory;
 use playing::{Behind, Pace, play};

@@ -6,7 +6,7 @@ mod plain;
 
 use crate::cases::{Case, cases_in};
 use e3_check::check;
-use e3_lines::Page;
+use e3_report::lines::Page;
 use e3_types::NoMemory;
 use plain::plain_line;
 use std::alloc::Global;

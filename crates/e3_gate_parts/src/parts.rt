@@ -7,7 +7,7 @@ mod quorums;
 mod rows;
 mod verdicts;
 
-use e3_lines::Page;
+use e3_report::lines::Page;
 use std::alloc::Global;
 
 /// Adds all lines.

@@ -5,13 +5,13 @@ use Rattle.std.proofs.lemmas.List.{length-map, length-take, take-append-drop}
 use Rattle.std.proofs.lemmas.List.Elements.{All-cons, All-nil}
 use Rattle.std.specs.Prelude.{All}
 use Rattle.atomic_table.specs.Seated.{TableId}
-use Rattle.e3_crew.proofs.Taking.{packets_may}
+use Rattle.e3_fleet.proofs.crew.Taking.{packets_may}
 use Rattle.e3_fleet.specs.Fleets.{IsTaken}
 use Rattle.e3_fleet.proofs.Holding.{held_last, may_put, owns_same, taken_on}
 use Rattle.e3_disk.specs.Meaning.{Meaning}
 use Rattle.e3_gate_runs.specs.AtOnce.{MayTakeAtOnce}
-use Rattle.e3_law_local.specs.Drafts.{MayTakeAll}
-use Rattle.e3_law_local.specs.Least.{AreFirstTo, queue_to}
+use Rattle.e3_laws.specs.local.Drafts.{MayTakeAll}
+use Rattle.e3_laws.specs.local.Least.{AreFirstTo, queue_to}
 use Rattle.e3_node.specs.NodeStands.{NodeStands}
 use Rattle.e3_node.specs.NodeView.{NodeView}
 use Rattle.e3_node.specs.Turns.{history_seen, scenario_seen}

@@ -1,8 +1,8 @@
 -- What a node is asked to take in one call.
 use Rattle.std.specs.Prelude.{◌≡◌, ◌≤◌, true, false, List, length}
 use Rattle.e3_disk.specs.Meaning.{Meaning}
-use Rattle.e3_law_local.specs.Drafts.{MayTakeAll}
-use Rattle.e3_law_local.specs.Least.{AreFirstTo}
+use Rattle.e3_laws.specs.local.Drafts.{MayTakeAll}
+use Rattle.e3_laws.specs.local.Least.{AreFirstTo}
 use Rattle.e3_node.specs.NodeStands.{NodeStands}
 use Rattle.e3_node.specs.NodeView.{NodeView}
 use Rattle.e3_node.specs.Turns.{history_seen, scenario_seen}

@@ -10,8 +10,8 @@ mod nodes;
 
 use crate::playing::{Ran, run_behind};
 use batches::push_batches;
-use e3_lines::Page;
 use e3_outside::MemSink;
+use e3_report::lines::Page;
 use e3_types::List;
 use meeting::Meeting;
 use nodes::push_nodes;

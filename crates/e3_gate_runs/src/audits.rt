@@ -7,7 +7,7 @@ mod comparing;
 
 use crate::playing::history_of;
 use comparing::{Tally, compare_all};
-use e3_lines::Page;
+use e3_report::lines::Page;
 use e3_scenario::read_scenario;
 use std::alloc::Global;
 use std::sync::Wait;

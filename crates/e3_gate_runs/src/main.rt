@@ -9,7 +9,7 @@ mod playing;
 mod rounds;
 mod turns;
 
-use e3_lines::Page;
+use e3_report::lines::Page;
 use std::env;
 use std::process::ExitCode;
 

@@ -10,7 +10,7 @@ mod rows;
 mod verdicts;
 
 use crate::playing::history_of;
-use e3_lines::Page;
+use e3_report::lines::Page;
 use e3_scenario::read_scenario;
 use e3_types::Scenario;
 use std::alloc::Global;

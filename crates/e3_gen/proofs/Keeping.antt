@@ -19,12 +19,12 @@ use Rattle.e3_gen.specs.Draws.{txn_words, behind_txns}
 use Rattle.e3_gen.specs.Items.{five, txn_name, sites_of, fellow, key_of, operations, cut_off, crashed, stopped, last_items, items_at, coordinator}
 use Rattle.e3_gen.specs.Generated.{items_to, step_of, scenario_with, generated_scenario}
 
--- what is said with these names, operations and parts, between two steps
+-- what the items came to so far, with these names, operations and parts, between two steps
 abbrev items_between : List BegunName → List (List ℕ) → List (List ℕ) → ItemsSoFar
 items_between begun ops parts = record { earlier = begun; fresh = []; ops = ops; parts = parts }
 
 module _ (n : ℕ) (steps : List (List Item)) where
-  -- steps of one item each keep the rules, and lead to what is said then
+  -- steps of one item each keep the rules, and lead from what the items came to before to what they come to then
   record Goes (k : ItemsSoFar) (items : List Item) (l : ItemsSoFar) : Type 0 where
     keep : (more : List (List Item)) → steps_keep (scenario_with n steps) l more ≡ true → steps_keep (scenario_with n steps) k (map step_of items ++ more) ≡ true
 
@@ -223,7 +223,7 @@ names_differ i j small less other = by (same_numbers (txn_name i) (txn_name j)) 
         tail_same : {x : ℕ} {xs ys : List ℕ} → x ∷ xs ≡ x ∷ ys → xs ≡ ys
         tail_same e = cc
 
--- what was said by the first transactions: none of the later names, and all sites are one part
+-- what the items of the first transactions came to: none of the later names, and all sites are one part
 record Behind (n k : ℕ) (steps : List (List Item)) : Type 0 where
   begun : List BegunName
   ops : List (List ℕ)

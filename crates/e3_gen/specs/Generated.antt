@@ -4,7 +4,7 @@ use Rattle.std.specs.Fmt.{decimal}
 use Rattle.std.specs.List.{flat_map}
 use Rattle.e3_types.specs.declared.scenarios.Item.{Item}
 use Rattle.e3_types.specs.declared.scenarios.Scenario.{Scenario}
-use Rattle.e3_lines.specs.Items.{item_text}
+use Rattle.e3_report.specs.lines.Items.{item_text}
 use Rattle.e3_gen.specs.Draws.{txn_words, behind_txns}
 use Rattle.e3_gen.specs.Items.{items_of}
 

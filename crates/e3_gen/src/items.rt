@@ -6,7 +6,7 @@ ghost use Rattle.e3_gen.specs.Generated.{step_of};
 ghost use Rattle.e3_gen.specs.Items.{five, txn_name, coordinator, sites_of, fellow, key_of, operations, cut_off, crashed, stopped, last_items, items_at, items_of};
 
 use crate::draws::{RecordWords, TxnWords};
-use e3_lines::{push_number, push_text};
+use e3_report::lines::{push_number, push_text};
 use e3_types::{Item, Key, Leave, List, Name, NoMemory, SiteSet, Val};
 use std::alloc::Global;
 

@@ -6,7 +6,7 @@ ghost use Rattle.e3_world.specs.Given.{IsGiven};
 
 use crate::draws::{draw_txn, generator_of};
 use crate::items::{Steps, add_txn};
-use e3_lines::{push_item, push_number, push_text};
+use e3_report::lines::{push_item, push_number, push_text};
 use e3_types::{Item, List, NoMemory, Scenario};
 use std::alloc::Global;
 

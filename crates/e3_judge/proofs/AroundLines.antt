@@ -1,4 +1,4 @@
--- The split of a history at its last line, one entry further.
+-- A history around its last line, one entry further.
 use Rattle.std.proofs.Common.{◌≡◌, ◌≤◌, ◌<◌, ℕ, suc, Bool, true, false, List, [], ◌∷◌, ◌++◌, refl, ap, sym, arith, ◌∙◌, length, take, drop, get_or, if◌then◌else◌}
 use Rattle.std.proofs.Math.Seq.{take-suc}
 use Rattle.std.proofs.Math.ListN.{drop_of_length-le}

@@ -12,12 +12,12 @@ use Rattle.e3_world.specs.Given.{IsGiven}
 use Rattle.e3_world.specs.Legal.{IsLegal}
 use Rattle.e3_world.specs.Moves.{trail_of}
 use Rattle.e3_world.specs.Safe.{Agrees}
-use Rattle.e3_law_agreement.specs.Logs.{IsIn}
-use Rattle.e3_law_agreement.proofs.Refinement.Lists.{same_from}
-use Rattle.e3_law_agreement.proofs.Histories.{given_agrees}
+use Rattle.e3_laws.specs.agreement.Logs.{IsIn}
+use Rattle.e3_laws.proofs.agreement.Refinement.Lists.{same_from}
+use Rattle.e3_laws.proofs.agreement.Histories.{given_agrees}
 use Rattle.e3_judge.specs.Clashes.{decisions, is_abort_of, clash_by, Clashes}
 use Rattle.e3_judge.proofs.Placing.{looked_at, stands_placed}
-use Rattle.e3_law_steps.proofs.Tests.{same_is}
+use Rattle.e3_laws.proofs.steps.Tests.{same_is}
 
 -- an abort that is found is among the records
 abort_in : (t : Txn) (rs : List Record) → list_any (is_abort_of t) rs ≡ true → IsIn (log.Decision t Abort) rs

@@ -11,12 +11,12 @@ use Rattle.e3_types.specs.declared.transactions.Txn.{Txn}
 use Rattle.e3_types.specs.Sets.{has_site}
 use Rattle.e3_world.specs.Moves.{Rose, Move, Tail, Past, own_entries, recorded, rise_records, kept_moves, left_by, moves_of_act, past_by, past_of, log_by, log_of, all_records, trail_of}
 use Rattle.e3_world.proofs.Trails.{trail_moves}
-use Rattle.e3_law_agreement.specs.Logs.{IsIn}
-use Rattle.e3_law_agreement.proofs.Protocol.Shares.{in_from_has}
-use Rattle.e3_law_agreement.proofs.Refinement.Agreeing.{put, placed_in}
-use Rattle.e3_law_agreement.proofs.Refinement.Following.{in_from_contains}
-use Rattle.e3_law_agreement.proofs.Refinement.Lists.{in_left, in_right, in_flat_map, has_from_in}
-use Rattle.e3_law_agreement.proofs.Refinement.Voting.{contains_from_in, placed_out}
+use Rattle.e3_laws.specs.agreement.Logs.{IsIn}
+use Rattle.e3_laws.proofs.agreement.Protocol.Shares.{in_from_has}
+use Rattle.e3_laws.proofs.agreement.Refinement.Agreeing.{put, placed_in}
+use Rattle.e3_laws.proofs.agreement.Refinement.Following.{in_from_contains}
+use Rattle.e3_laws.proofs.agreement.Refinement.Lists.{in_left, in_right, in_flat_map, has_from_in}
+use Rattle.e3_laws.proofs.agreement.Refinement.Voting.{contains_from_in, placed_out}
 use Rattle.e3_types.specs.declared.entries.Act.{Act}
 use Rattle.e3_types.specs.declared.entries.Act.TheVariants.{Step, Fall, Rise, RiseFall, Miss, Cut, Drop, Parts, Line}
 use Rattle.e3_types.specs.declared.entries.Why.{Why}

@@ -6,3 +6,4 @@ pub mod LeftOf
 pub mod Standing
 pub mod Added
 pub mod Clashes
+pub mod audit

@@ -1,8 +1,9 @@
 //! Whether a history is one that a scenario allows, and where it is not, at which entry and by which rule. Beside it
 //! what is read off a history: its logs and packets, the order in which its transactions commit, and whether its sites
-//! agree.
+//! agree. All of it is read anew for each entry; `audit` says the same in about the time of a run.
 #![tactic(auto)]
 
+pub mod audit;
 mod breach;
 mod checks;
 mod clashing;

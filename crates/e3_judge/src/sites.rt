@@ -9,8 +9,8 @@ ghost use Rattle.e3_judge.specs.Standing.{kept_in, nothing_yet, standing_by, ste
 use crate::counts::add;
 use crate::packets::sent_count;
 use crate::prefix::Prefix;
-use e3_plain::{step_of, unnumbered, unnumbered_input};
 use e3_readings::{present_log, rows_at};
+use e3_step::plain::{step_of, unnumbered, unnumbered_input};
 use e3_types::{Act, Copied, Entry, Input, List, NoMemory, Packet, Record, Scenario, Told, Why};
 use e3_world::{Incarnation, Made, SiteStep};
 use std::alloc::Global;

@@ -1,12 +1,12 @@
 -- The logs of a batch are in order, and their briefs are told, whatever others put before it.
 use Rattle.std.proofs.Common.{◌≡◌, ◌≤◌, ℕ, true, false, List, take, sym, subst}
-use Rattle.e3_law_local.specs.Drafts.{MayTakeAll}
-use Rattle.e3_law_local.specs.Least.{AreFirstTo}
-use Rattle.e3_law_serial.specs.Orderly.{LogsAreOrderly}
+use Rattle.e3_laws.specs.local.Drafts.{MayTakeAll}
+use Rattle.e3_laws.specs.local.Least.{AreFirstTo}
+use Rattle.e3_laws.specs.serial.Orderly.{LogsAreOrderly}
 use Rattle.e3_world.specs.Orderly.{IsOrderly}
-use Rattle.e3_law_brief.specs.Sets.{LoggedSitesAreSets}
-use Rattle.e3_law_steps.specs.Begun.{BegunAreTransactions, RecordsMentionWhatStands}
-use Rattle.e3_law_steps.specs.Trails.{TrailsAreSound, VotesAtTheirSite}
+use Rattle.e3_laws.specs.brief.Sets.{LoggedSitesAreSets}
+use Rattle.e3_laws.specs.steps.Begun.{BegunAreTransactions, RecordsMentionWhatStands}
+use Rattle.e3_laws.specs.steps.Trails.{TrailsAreSound, VotesAtTheirSite}
 use Rattle.e3_site.specs.StandsAlike.{IsLogInOrder}
 use Rattle.e3_node.specs.Batches.{stepped}
 use Rattle.e3_node.specs.Briefing.{BriefsAreTold}

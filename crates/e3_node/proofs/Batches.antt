@@ -1,10 +1,10 @@
 -- The steps of several inputs, one behind the other.
 use Rattle.std.proofs.Common.{◌≡◌, ◌≢◌, ◌≤◌, ◌++◌, ◌∷◌, [], ℕ, true, List, length, refl, sym, ap, ◌∙◌, append-nil, append_assoc, arith}
 use Rattle.std.specs.List.{AllByRecursion as Each}
-use Rattle.e3_law_steps.specs.Begun.{BegunAreTransactions, RecordsMentionWhatStands}
+use Rattle.e3_laws.specs.steps.Begun.{BegunAreTransactions, RecordsMentionWhatStands}
 use Rattle.e3_node.specs.Batches.{unnumbered_of, unnumbered_steps, stepped}
 use Rattle.e3_node.specs.Telling.{IsOfSite}
-use Rattle.e3_law_steps.specs.Trails.{VotesAtTheirSite}
+use Rattle.e3_laws.specs.steps.Trails.{VotesAtTheirSite}
 use Rattle.e3_types.specs.declared.entries.Entry.{Entry}
 use Rattle.e3_types.specs.declared.entries.Input.{Input}
 use Rattle.e3_types.specs.declared.records.Record.{Record}

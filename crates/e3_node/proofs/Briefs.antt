@@ -3,18 +3,18 @@ use Rattle.std.proofs.Common.{◌≡◌, ◌≢◌, ◌<◌, length, arith, ◌+
 use Rattle.std.specs.Prelude.{if◌then◌else◌, nat_lt, max, Result, Ok, Err, IfOk}
 use Rattle.e3_disk.specs.Meters.{Meters}
 use Rattle.std.specs.List.{AllByRecursion as Each, flat_map}
-use Rattle.e3_law_brief.specs.Alike.{ReadAlike}
+use Rattle.e3_laws.specs.brief.Alike.{ReadAlike}
 use Rattle.e3_world.specs.Brief.{attempt_in, born_by, born_in, brief, decision_in, inc_in, join_in, noted, open_ops, txns_of, vote_in}
 use Rattle.e3_world.specs.Orderly.{IsOrderly, weights_in}
-use Rattle.e3_law_brief.proofs.Laws.{are_some, same_brief}
-use Rattle.e3_law_serial.specs.Orderly.{LogsAreOrderly}
+use Rattle.e3_laws.proofs.brief.Laws.{are_some, same_brief}
+use Rattle.e3_laws.specs.serial.Orderly.{LogsAreOrderly}
 use Rattle.e3_world.specs.Transactions.{IsFoundByBits}
 use Rattle.e3_site.specs.StandsAlike.{IsLogInOrder, StandsAlike, now_with}
-use Rattle.e3_law_steps.specs.Begun.{BegunAreTransactions, RecordsMentionWhatStands}
-use Rattle.e3_law_steps.specs.Bounds.{IsHere}
-use Rattle.e3_law_steps.specs.Trails.{TrailsAreSound, VotesAtTheirSite}
-use Rattle.e3_law_steps.proofs.Ascending.{each_fold}
-use Rattle.e3_law_steps.proofs.Each.{each-append, each-flat}
+use Rattle.e3_laws.specs.steps.Begun.{BegunAreTransactions, RecordsMentionWhatStands}
+use Rattle.e3_laws.specs.steps.Bounds.{IsHere}
+use Rattle.e3_laws.specs.steps.Trails.{TrailsAreSound, VotesAtTheirSite}
+use Rattle.e3_laws.proofs.steps.Ascending.{each_fold}
+use Rattle.e3_laws.proofs.steps.Each.{each-append, each-flat}
 use Rattle.e3_log.specs.Stands.{LogState}
 use Rattle.e3_node.specs.Briefing.{IsBriefOf, IsReadBrief}
 use Rattle.e3_node.specs.Telling.{IsOfSite}

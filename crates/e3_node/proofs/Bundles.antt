@@ -3,13 +3,13 @@ use Rattle.std.proofs.Common.{◌≡◌, ◌+◌, ◌-◌, ◌≤◌, ◌++◌, 
 use Rattle.std.specs.List.{flat_map}
 use Rattle.std.proofs.lemmas.Grind.{flat_map-append}
 use Rattle.e3_disk.specs.Meaning.{Meaning}
-use Rattle.e3_law_local.specs.Drafts.{MayTakeAll}
-use Rattle.e3_law_local.specs.Least.{AreFirstTo, AreOfSites, IsLeastTo, queue_to}
-use Rattle.e3_law_local.specs.Others.{Allows, AreOthers, numbered_on}
-use Rattle.e3_law_local.proofs.Alike.{all_on}
-use Rattle.e3_law_local.proofs.Due.{all_due, calm_on}
-use Rattle.e3_law_local.proofs.Laws.{legal_behind}
-use Rattle.e3_law_local.proofs.Queues.{first_are_waiting, front_is_least, queue_goes_on, queue_stays}
+use Rattle.e3_laws.specs.local.Drafts.{MayTakeAll}
+use Rattle.e3_laws.specs.local.Least.{AreFirstTo, AreOfSites, IsLeastTo, queue_to}
+use Rattle.e3_laws.specs.local.Others.{Allows, AreOthers, numbered_on}
+use Rattle.e3_laws.proofs.local.Alike.{all_on}
+use Rattle.e3_laws.proofs.local.Due.{all_due, calm_on}
+use Rattle.e3_laws.proofs.local.Laws.{legal_behind}
+use Rattle.e3_laws.proofs.local.Queues.{first_are_waiting, front_is_least, queue_goes_on, queue_stays}
 use Rattle.e3_node.specs.Batches.{unnumbered_of, unnumbered_steps, stepped}
 use Rattle.e3_node.specs.Bodies.{entries_at}
 use Rattle.e3_node.specs.NodeStands.{steps_at}

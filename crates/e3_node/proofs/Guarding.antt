@@ -1,7 +1,7 @@
 -- The entries of a site, and that they are allowed.
 use Rattle.std.proofs.Common.{◌≡◌, ◌≢◌, ◌≤◌, ◌∷◌, [], ℕ, zero, suc, Bool, true, List, length, map, refl, sym, subst, ap, ◌∙◌, append-nil, arith}
-use Rattle.e3_law_local.specs.Least.{IsLeastTo}
-use Rattle.e3_law_local.proofs.Least.{first_is_least}
+use Rattle.e3_laws.specs.local.Least.{IsLeastTo}
+use Rattle.e3_laws.proofs.local.Least.{first_is_least}
 use Rattle.e3_play.specs.Entering.{IsFirst, fall_of}
 use Rattle.e3_types.specs.declared.entries.Act.TheVariants.{Step, Rise, RiseFall, Miss, Cut}
 use Rattle.e3_types.specs.declared.entries.Entry.{Entry}

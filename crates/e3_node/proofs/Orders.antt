@@ -2,8 +2,8 @@
 use Rattle.std.proofs.Common.{◌≡◌, ◌≢◌, ◌≤◌, ◌++◌, ◌∷◌, [], ℕ, Bool, true, false, List, refl, sym, ◌∙◌}
 use Rattle.std.specs.Prelude.{fold, None}
 use Rattle.std.proofs.lemmas.Grind.{flat_map-append}
-use Rattle.e3_law_serial.specs.Orderly.{LogsAreOrderly}
-use Rattle.e3_law_brief.specs.Sets.{LoggedSitesAreSets}
+use Rattle.e3_laws.specs.serial.Orderly.{LogsAreOrderly}
+use Rattle.e3_laws.specs.brief.Sets.{LoggedSitesAreSets}
 use Rattle.e3_site.specs.StandsAlike.{IsLogInOrder}
 use Rattle.e3_node.specs.Batches.{stepped}
 use Rattle.e3_types.specs.declared.entries.Act.{Act}

@@ -1,9 +1,9 @@
 -- What a batch comes to, step by step: planned, and then entered or fallen over.
 use Rattle.std.proofs.Common.{◌≡◌, ◌+◌, ◌≤◌, ◌++◌, ◌∷◌, [], ℕ, zero, suc, true, false, List, length, take, drop, map, refl, sym, subst, ap, ◌∙◌, append-nil, append_assoc, arith}
 use Rattle.std.proofs.lemmas.List.{take-append-drop, take-map}
-use Rattle.e3_law_local.specs.Drafts.{MayTakeAll}
-use Rattle.e3_law_local.specs.Least.{AreFirstTo, queue_to}
-use Rattle.e3_law_local.proofs.Queues.{front_is_least}
+use Rattle.e3_laws.specs.local.Drafts.{MayTakeAll}
+use Rattle.e3_laws.specs.local.Least.{AreFirstTo, queue_to}
+use Rattle.e3_laws.proofs.local.Queues.{front_is_least}
 use Rattle.e3_node.specs.Batches.{fall_over, unnumbered_steps}
 use Rattle.e3_node.specs.Bodies.{DiskTells, ReadsTold, entries_at}
 use Rattle.e3_node.specs.Several.{MayEnterAll, claims_for}
@@ -29,8 +29,8 @@ use Rattle.e3_world.specs.Items.{is_up_at}
 use Rattle.e3_world.specs.Legal.{AreDue, IsLegal, entry_of, records_by}
 use Rattle.e3_world.specs.Moves.{Move, Past, left_by, log_of, moves_of, unnumbered_input}
 use Rattle.e3_world.specs.Packets.{is_calm, lines, present_items, step_items}
-use Rattle.e3_law_local.proofs.Alike.{all_on}
-use Rattle.e3_law_local.proofs.Laws.{legal_behind}
+use Rattle.e3_laws.proofs.local.Alike.{all_on}
+use Rattle.e3_laws.proofs.local.Laws.{legal_behind}
 use Rattle.e3_node.proofs.Batches.{unnumbered_same}
 use Rattle.e3_node.proofs.Bundles.{due_on_all, first_on, may_enter_all, unnumbered_own}
 use Rattle.e3_site_log.specs.Bodies.{ReadsLeft}

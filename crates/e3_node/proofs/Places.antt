@@ -1,6 +1,6 @@
 -- A claim and its entry give no place back, nor do marks of others.
 use Rattle.std.proofs.Common.{◌≡◌, ◌≤◌, ◌++◌, ◌∷◌, [], ℕ, true, false, List, length, refl, sym, ap, ◌∙◌, append-nil, append_assoc}
-use Rattle.e3_law_local.specs.Others.{numbered_on}
+use Rattle.e3_laws.specs.local.Others.{numbered_on}
 use Rattle.e3_node.specs.Places.{HasGivenNoneBack, OwnGiveNoneBack}
 use Rattle.e3_turn.specs.Passes.{GrewByOthers, Owns, seen_by}
 use Rattle.e3_types.specs.declared.entries.Act.{Act}

@@ -6,14 +6,14 @@ use Rattle.atomic_table.specs.Seated.{TableId}
 use Rattle.e3_codec.specs.Fields.{AllCanBeReadBack}
 use Rattle.e3_disk.specs.Meaning.{Meaning}
 use Rattle.e3_disk.specs.Meters.{Keeps, Meters}
-use Rattle.e3_law_steps.specs.Begun.{BegunAreTransactions, RecordsMentionWhatStands}
-use Rattle.e3_law_local.specs.Drafts.{MayTakeAll}
-use Rattle.e3_law_local.specs.Least.{AreFirstTo}
-use Rattle.e3_law_local.specs.Others.{Allows, numbered_on}
-use Rattle.e3_law_serial.specs.Orderly.{LogsAreOrderly}
+use Rattle.e3_laws.specs.steps.Begun.{BegunAreTransactions, RecordsMentionWhatStands}
+use Rattle.e3_laws.specs.local.Drafts.{MayTakeAll}
+use Rattle.e3_laws.specs.local.Least.{AreFirstTo}
+use Rattle.e3_laws.specs.local.Others.{Allows, numbered_on}
+use Rattle.e3_laws.specs.serial.Orderly.{LogsAreOrderly}
 use Rattle.e3_world.specs.Orderly.{IsOrderly}
-use Rattle.e3_law_brief.specs.Sets.{LoggedSitesAreSets}
-use Rattle.e3_law_steps.specs.Trails.{VotesAtTheirSite}
+use Rattle.e3_laws.specs.brief.Sets.{LoggedSitesAreSets}
+use Rattle.e3_laws.specs.steps.Trails.{VotesAtTheirSite}
 use Rattle.e3_log.specs.Stands.{LogState}
 use Rattle.e3_node.specs.Batched.{HasPlanned, IsBatch}
 use Rattle.e3_node.specs.Batches.{FrameTakes, fall_over, unnumbered_steps, stepped}

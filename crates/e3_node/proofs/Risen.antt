@@ -21,7 +21,7 @@ use Rattle.e3_types.specs.declared.entries.Act.TheVariants.{Miss}
 use Rattle.e3_types.specs.declared.entries.Entry.{Entry}
 use Rattle.e3_types.specs.declared.entries.Why.{Why}
 use Rattle.e3_types.specs.declared.scenarios.Scenario.{Scenario}
-use Rattle.e3_law_serial.specs.Orderly.{TailsAreOrderly}
+use Rattle.e3_laws.specs.serial.Orderly.{TailsAreOrderly}
 use Rattle.e3_wire.specs.Marks.{entries_of, scenario_of}
 use Rattle.e3_wire.specs.declared.marks.Mark.{Mark}
 use Rattle.e3_world.specs.Items.{is_up_at}

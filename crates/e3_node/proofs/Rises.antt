@@ -8,18 +8,18 @@ use Rattle.e3_codec.specs.Fields.{AllCanBeReadBack}
 use Rattle.e3_disk.specs.Images.{Within}
 use Rattle.e3_disk.specs.Meaning.{Meaning}
 use Rattle.e3_disk.specs.Meters.{Keeps, Meters, HasFailed}
-use Rattle.e3_law_brief.specs.Alike.{ReadAlike}
+use Rattle.e3_laws.specs.brief.Alike.{ReadAlike}
 use Rattle.e3_world.specs.Brief.{brief, txns_of}
 use Rattle.e3_world.specs.Transactions.{IsFoundByBits}
 use Rattle.e3_world.specs.Orderly.{IsOrderly, weights_in}
-use Rattle.e3_law_brief.specs.Sets.{LoggedSitesAreSets}
-use Rattle.e3_law_brief.proofs.Laws.{are_some, same_alike}
-use Rattle.e3_law_serial.specs.Orderly.{LogsAreOrderly}
+use Rattle.e3_laws.specs.brief.Sets.{LoggedSitesAreSets}
+use Rattle.e3_laws.proofs.brief.Laws.{are_some, same_alike}
+use Rattle.e3_laws.specs.serial.Orderly.{LogsAreOrderly}
 use Rattle.e3_site.specs.StandsAlike.{IsLogInOrder, StandsAlike}
 use Rattle.e3_site.proofs.Alike.{rises}
-use Rattle.e3_law_steps.specs.Begun.{BegunAreTransactions, RecordsMentionWhatStands}
-use Rattle.e3_law_steps.specs.Trails.{TrailsAreSound, VotesAtTheirSite}
-use Rattle.e3_law_steps.proofs.Each.{each-left}
+use Rattle.e3_laws.specs.steps.Begun.{BegunAreTransactions, RecordsMentionWhatStands}
+use Rattle.e3_laws.specs.steps.Trails.{TrailsAreSound, VotesAtTheirSite}
+use Rattle.e3_laws.proofs.steps.Each.{each-left}
 use Rattle.e3_log.specs.declared.fault.OpenCause.{OpenCause}
 use Rattle.e3_log.specs.declared.fault.OpenCause.TheVariants as causes
 use Rattle.e3_log.specs.Reading.{ReadsAs as BytesReadAs}

@@ -2,7 +2,7 @@
 use Rattle.std.proofs.Common.{◌≡◌, ◌+◌, ◌<◌, ◌≤◌, ◌++◌, ◌∷◌, [], ℕ, suc, List, length, refl, sym, subst, ap, ◌∙◌, append-nil, append_assoc, arith}
 use Rattle.std.specs.Prelude.{All}
 use Rattle.std.proofs.lemmas.List.Elements.{All-nil, All-cons}
-use Rattle.e3_law_local.specs.Others.{numbered_on}
+use Rattle.e3_laws.specs.local.Others.{numbered_on}
 use Rattle.e3_node.specs.Several.{AreOf, MayEnterAll, claims_for, marks_in}
 use Rattle.e3_turn.specs.Chronicles.{ExtendsByOwners, IsOwn, count_of}
 use Rattle.e3_types.specs.declared.entries.Entry.{Entry}

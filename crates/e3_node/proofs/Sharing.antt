@@ -2,7 +2,7 @@
 use Rattle.std.proofs.Common.{◌≡◌, ◌==◌, ◌||◌, ◌+◌, ◌-◌, ◌≤◌, ◌++◌, ◌∷◌, [], ℕ, suc, true, false, List, length, refl, sym, subst, ap, ◌∙◌, append-nil, append_assoc, arith, eq-eqb}
 use Rattle.std.specs.Prelude.{Bool, Result, Ok, Err, OnOk}
 use Rattle.std.proofs.lemmas.List.Elements.{All-nil, All-cons}
-use Rattle.e3_law_local.specs.Others.{Allows, numbered_on}
+use Rattle.e3_laws.specs.local.Others.{Allows, numbered_on}
 use Rattle.e3_node.specs.SharedStands.{HasEntered, IsClaimed, SharedGoesOn, SharedStands}
 use Rattle.e3_node.specs.Rising.{RiseIsEntered, entered_by}
 use Rattle.e3_node.specs.declared.rising.Raised.{Raised}

@@ -8,7 +8,7 @@ use Rattle.e3_codec.specs.Fields.{AllCanBeReadBack}
 use Rattle.e3_disk.specs.Images.{Within}
 use Rattle.e3_disk.specs.Meaning.{Meaning}
 use Rattle.e3_log.specs.Stands.{LogState}
-use Rattle.e3_law_local.specs.Others.{Allows, numbered_on}
+use Rattle.e3_laws.specs.local.Others.{Allows, numbered_on}
 use Rattle.e3_node.specs.Bodies.{DiskTells, ReadsTold, entries_at}
 use Rattle.e3_node.specs.Drafts.{IsAsBefore, IsDraft, IsReady, StandsOnBy}
 use Rattle.e3_node.specs.Ends.{FellOver, is_fall}

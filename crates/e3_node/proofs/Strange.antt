@@ -6,9 +6,9 @@ use Rattle.e3_codec.specs.Fields.{AllCanBeReadBack}
 use Rattle.e3_codec.proofs.Records.{never_bad, one_list}
 use Rattle.e3_world.specs.Brief.{brief}
 use Rattle.e3_world.specs.Orderly.{IsOrderly, OrderlyAfter}
-use Rattle.e3_law_brief.specs.Sets.{LoggedSitesAreSets}
-use Rattle.e3_law_serial.specs.Orderly.{LogsAreOrderly}
-use Rattle.e3_law_steps.specs.Trails.{TrailsAreSound}
+use Rattle.e3_laws.specs.brief.Sets.{LoggedSitesAreSets}
+use Rattle.e3_laws.specs.serial.Orderly.{LogsAreOrderly}
+use Rattle.e3_laws.specs.steps.Trails.{TrailsAreSound}
 use Rattle.e3_log.specs.Reading.{ReadsAs as BytesReadAs}
 use Rattle.e3_log.proofs.Unique.{one_text}
 use Rattle.e3_node.specs.Bodies.{ReadsTold, entries_at, log_with}

@@ -5,10 +5,10 @@ use Rattle.std.proofs.lemmas.Grind.{fold-append}
 use Rattle.std.proofs.lemmas.List.Folds.{list_any-append}
 use Rattle.e3_world.specs.Brief.{brief}
 use Rattle.e3_world.specs.Orderly.{IsOrderly, MayFollow, OrderlyAfter}
-use Rattle.e3_law_brief.proofs.Going.{orderly_on}
-use Rattle.e3_law_brief.proofs.Laws.{same_alike}
-use Rattle.e3_law_brief.proofs.Shape.{quiet_from}
-use Rattle.e3_law_steps.proofs.Tests.{same_self}
+use Rattle.e3_laws.proofs.brief.Going.{orderly_on}
+use Rattle.e3_laws.proofs.brief.Laws.{same_alike}
+use Rattle.e3_laws.proofs.brief.Shape.{quiet_from}
+use Rattle.e3_laws.proofs.steps.Tests.{same_self}
 use Rattle.e3_types.specs.Same.{same_txn}
 use Rattle.e3_types.specs.declared.records.Record.{Record}
 use Rattle.e3_types.specs.declared.records.Record.TheVariants as log

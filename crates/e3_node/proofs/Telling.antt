@@ -4,7 +4,7 @@ use Rattle.std.specs.Prelude.{OnOk, Result, Ok, Err}
 use Rattle.std.specs.List.{AllByRecursion as Each}
 use Rattle.e3_codec.specs.Fields.{AllCanBeReadBack, CanBeReadBack, HasSpelling, NumOpFits, OpFits, TxnFits, TxnNumbersFit}
 use Rattle.e3_node.specs.Telling.{IsOfSite, IsTold, NumOpTold, OpTold}
-use Rattle.e3_law_steps.specs.Bounds.{IsHere}
+use Rattle.e3_laws.specs.steps.Bounds.{IsHere}
 use Rattle.e3_types.specs.Transactions.{is_txn}
 use Rattle.e3_types.specs.declared.list.NoMemory.{NoMemory}
 use Rattle.e3_types.specs.declared.records.Record.{Record}

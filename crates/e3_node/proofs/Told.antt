@@ -2,8 +2,8 @@
 use Rattle.std.proofs.Common.{◌≡◌, ◌≢◌, ◌↔◌, ◌==◌, ◌++◌, ◌∷◌, [], ℕ, zero, suc, Bool, true, false, List, Option, Some, None, map, refl, sym, subst, ap, ◌∙◌, append-nil, append_assoc}
 use Rattle.e3_world.specs.Brief.{brief}
 use Rattle.e3_world.specs.Orderly.{IsOrderly}
-use Rattle.e3_law_serial.specs.Orderly.{TailsAreOrderly}
-use Rattle.e3_law_steps.specs.Trails.{tail_records}
+use Rattle.e3_laws.specs.serial.Orderly.{TailsAreOrderly}
+use Rattle.e3_laws.specs.steps.Trails.{tail_records}
 use Rattle.e3_node.specs.Bodies.{IsKeptExactly, IsRead, entries_at, log_with}
 use Rattle.e3_site_log.specs.Bodies.{joined}
 use Rattle.e3_node.specs.Told.{ReadingsAreTold, TailsAreTold}

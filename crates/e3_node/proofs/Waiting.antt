@@ -4,10 +4,10 @@ use Rattle.std.specs.List.{AllByRecursion as Each}
 use Rattle.atomic_table.specs.Seated.{TableId}
 use Rattle.e3_codec.specs.Fields.{AllCanBeReadBack}
 use Rattle.e3_disk.specs.Meaning.{Meaning}
-use Rattle.e3_law_local.specs.Least.{AreOfSites}
-use Rattle.e3_law_local.specs.Others.{Allows, AreOthers, numbered_on}
-use Rattle.e3_law_local.proofs.Alike.{all_on}
-use Rattle.e3_law_local.proofs.Laws.{legal_behind}
+use Rattle.e3_laws.specs.local.Least.{AreOfSites}
+use Rattle.e3_laws.specs.local.Others.{Allows, AreOthers, numbered_on}
+use Rattle.e3_laws.proofs.local.Alike.{all_on}
+use Rattle.e3_laws.proofs.local.Laws.{legal_behind}
 use Rattle.e3_node.specs.Claims.{MovesStay, NodesKeptByOthers, NodesStandBehindOthers}
 use Rattle.e3_node.specs.Drafts.{IsAsBefore}
 use Rattle.e3_node.specs.Ends.{input_fault_of}

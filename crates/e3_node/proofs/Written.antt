@@ -3,10 +3,10 @@ use Rattle.std.proofs.Common.{◌≡◌, ◌≤◌, ◌++◌, ◌∙◌, ℕ, tr
 use Rattle.std.specs.List.{AllByRecursion as Each}
 use Rattle.e3_codec.specs.Fields.{AllCanBeReadBack}
 use Rattle.e3_world.specs.Orderly.{IsOrderly}
-use Rattle.e3_law_brief.specs.Sets.{LoggedSitesAreSets}
-use Rattle.e3_law_serial.specs.Orderly.{LogsAreOrderly}
-use Rattle.e3_law_steps.specs.Begun.{BegunAreTransactions, RecordsMentionWhatStands}
-use Rattle.e3_law_steps.specs.Trails.{TrailsAreSound, VotesAtTheirSite}
+use Rattle.e3_laws.specs.brief.Sets.{LoggedSitesAreSets}
+use Rattle.e3_laws.specs.serial.Orderly.{LogsAreOrderly}
+use Rattle.e3_laws.specs.steps.Begun.{BegunAreTransactions, RecordsMentionWhatStands}
+use Rattle.e3_laws.specs.steps.Trails.{TrailsAreSound, VotesAtTheirSite}
 use Rattle.e3_node.specs.Briefing.{IsBriefOf}
 use Rattle.e3_node.specs.NodeStands.{StandsBy}
 use Rattle.e3_node.specs.Telling.{IsOfSite}

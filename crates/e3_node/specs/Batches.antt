@@ -92,9 +92,9 @@ module _ {D : Type 0} (meters : D → Meters) where
       ⊎ ((why : Why) × HasFallenOverAll sc before more site (take n inputs) why old (disk_of new)))
 
   -- How a batch ended: with the steps of as many of its inputs as one frame takes, and that many are told; or a fall over so many;
-  -- or so with those before the one that memory was wanting for. Where they are not all, their frame has room behind the log, so
-  -- that no turn comes for it, and no fall but for a fault of the disk. A site that was down did nothing. No batch is refused for
-  -- a full history.
+  -- or so with those before the one that memory was wanting for, of whose frame no more is said. Else, where they are not all, their
+  -- frame has room behind the log, so that no turn comes for it, and no fall but for a fault of the disk. A site that was down did
+  -- nothing. No batch is refused for a full history.
   abbrev pub BatchEnded : Scenario → List Entry → List Entry → ℕ → List Input → State D → State D → Result ℕ InputFault → Type 0
   BatchEnded sc before more site inputs old new (Ok n) =
       OneFrameTakes old sc before site inputs n × HasSteppedAll sc before more site (take n inputs) old new

@@ -1,7 +1,7 @@
 -- What entries of others leave, and what a node that stands tells of its disk.
 use Rattle.std.specs.Prelude.{◌≡◌, ◌≢◌, ◌++◌, ◌∷◌, [], ℕ, List}
 use Rattle.e3_disk.specs.Meaning.{Meaning}
-use Rattle.e3_law_local.specs.Others.{AreOthers}
+use Rattle.e3_laws.specs.local.Others.{AreOthers}
 use Rattle.e3_node.specs.Bodies.{DiskStands}
 use Rattle.e3_node.specs.NodeStands.{NodeStands}
 use Rattle.e3_node.specs.NodeView.{NodeView, disk_of, is_up_in}

@@ -1,6 +1,6 @@
 -- Several claims and entries of a site, one behind the other.
 use Rattle.std.specs.Prelude.{◌≡◌, ◌≤◌, ◌++◌, ◌∷◌, [], ℕ, List, length}
-use Rattle.e3_law_local.specs.Others.{numbered_on}
+use Rattle.e3_laws.specs.local.Others.{numbered_on}
 use Rattle.e3_turn.specs.Passes.{Owns}
 use Rattle.e3_types.specs.declared.entries.Entry.{Entry}
 use Rattle.e3_wire.specs.Claims.{APass}

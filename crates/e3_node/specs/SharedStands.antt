@@ -1,6 +1,6 @@
 -- What is always true of what the sites of a run share, between calls of one thread.
 use Rattle.std.specs.Prelude.{◌≡◌, ◌≤◌, ◌++◌, ◌∷◌, [], ℕ, List, length}
-use Rattle.e3_law_local.specs.Others.{numbered_on}
+use Rattle.e3_laws.specs.local.Others.{numbered_on}
 use Rattle.e3_types.specs.declared.entries.Entry.{Entry}
 use Rattle.e3_wire.specs.Claims.{HaveGrown}
 use Rattle.e3_wire.specs.declared.marks.Mark.{Mark}

@@ -2,7 +2,7 @@
 use Rattle.std.specs.Prelude.{◌≡◌, true, ℕ}
 use Rattle.std.specs.List.{AllByRecursion as Each}
 use Rattle.e3_codec.specs.Fields.{IsShort, RowFits, TxnNumbersFit}
-use Rattle.e3_law_steps.specs.Bounds.{IsHere}
+use Rattle.e3_laws.specs.steps.Bounds.{IsHere}
 use Rattle.e3_types.specs.Text.{IsName, IsValue}
 use Rattle.e3_types.specs.Transactions.{is_txn}
 use Rattle.e3_types.specs.declared.records.Record.{Record}

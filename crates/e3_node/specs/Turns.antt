@@ -2,8 +2,8 @@
 use Rattle.std.specs.Prelude.{◌≡◌, ◌≤◌, ◌++◌, ◌∷◌, [], ℕ, false, List, Result, Ok, Err}
 use Rattle.atomic_table.specs.Seated.{TableId}
 use Rattle.e3_disk.specs.Meaning.{Meaning}
-use Rattle.e3_law_local.specs.Least.{AreOfSites}
-use Rattle.e3_law_local.specs.Others.{AreOthers}
+use Rattle.e3_laws.specs.local.Least.{AreOfSites}
+use Rattle.e3_laws.specs.local.Others.{AreOthers}
 use Rattle.e3_node.specs.Ends.{FellOver}
 use Rattle.e3_node.specs.NodeStands.{IsFallen, IsIn, NodeStands}
 use Rattle.e3_node.specs.NodeView.{NodeView, disk_of}

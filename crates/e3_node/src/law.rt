@@ -1,15 +1,15 @@
 // Laws of nodes, and those of logs that their proofs use.
-ghost use Rattle.e3_law_brief.specs.Sets.{LoggedSitesAreSets};
-ghost use Rattle.e3_law_serial.specs.Orderly.{LogsAreOrderly};
-ghost use Rattle.e3_law_steps.specs.Begun.{BegunAreTransactions, RecordsMentionWhatStands};
-ghost use Rattle.e3_law_steps.specs.Trails.{TrailsAreSound, VotesAtTheirSite};
+ghost use Rattle.e3_laws.specs.brief.Sets.{LoggedSitesAreSets};
+ghost use Rattle.e3_laws.specs.serial.Orderly.{LogsAreOrderly};
+ghost use Rattle.e3_laws.specs.steps.Begun.{BegunAreTransactions, RecordsMentionWhatStands};
+ghost use Rattle.e3_laws.specs.steps.Trails.{TrailsAreSound, VotesAtTheirSite};
 ghost use Rattle.e3_node.specs.Claims.{DisksKept, MovesStay, NodesDisks, NodesKept, NodesKeptByOthers, NodesStandBehindOthers, NodesUp};
 ghost use Rattle.e3_node.specs.Told.{ReadingsAreTold, TailsAreTold};
 
 use e3_disk::Disk;
-use e3_law_brief::logged_sites_are_sets;
-use e3_law_serial::logs_are_orderly;
-use e3_law_steps::{
+use e3_laws::brief::logged_sites_are_sets;
+use e3_laws::serial::logs_are_orderly;
+use e3_laws::steps::{
     begun_are_transactions, legal_histories_mention_what_stands, records_suit_their_site,
     trails_are_sound,
 };

@@ -1,8 +1,8 @@
 // Several packets, by the worker of their site: one frame, and then their steps in one turn; or a fall over all of them.
 ghost use Rattle.std.specs.Prelude.{◌≡◌, ◌≤◌, ◌↔◌, true, false, length, take, None, Some, Err};
 ghost use Rattle.e3_disk.specs.Meters.{Keeps};
-ghost use Rattle.e3_law_local.specs.Drafts.{MayTakeAll};
-ghost use Rattle.e3_law_local.specs.Least.{AreFirstTo};
+ghost use Rattle.e3_laws.specs.local.Drafts.{MayTakeAll};
+ghost use Rattle.e3_laws.specs.local.Least.{AreFirstTo};
 ghost use Rattle.e3_node.specs.Batched.{OnlyForMemory};
 ghost use Rattle.e3_node.specs.Batches.{BatchEnded};
 ghost use Rattle.e3_node.specs.Ending.{EndsWith, answer_by};

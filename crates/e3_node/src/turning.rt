@@ -1,7 +1,7 @@
 // An input of a site that is up, by its worker.
 ghost use Rattle.std.specs.Prelude.{◌≡◌, ◌≤◌, ◌↔◌, true, false, OnOk, Err};
 ghost use Rattle.e3_disk.specs.Meters.{Keeps};
-ghost use Rattle.e3_law_local.specs.Drafts.{MayTake};
+ghost use Rattle.e3_laws.specs.local.Drafts.{MayTake};
 ghost use Rattle.e3_node.specs.Ends.{HasRoomBehind, IsOneFrame, OnLogs};
 ghost use Rattle.e3_node.specs.NodeStands.{IsIn, IsUp};
 ghost use Rattle.e3_node.specs.NodeView.{disk_of};

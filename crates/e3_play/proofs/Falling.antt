@@ -19,9 +19,9 @@ use Rattle.e3_world.proofs.Readings.{since_push, up_other, up_same}
 use Rattle.e3_world.proofs.Turns.{self, true_not_false}
 use Rattle.e3_play.specs.Delivered.{Delivers, Nothing, Then}
 use Rattle.e3_play.specs.Entering.{AfterInput, AfterPacket, fall_of}
-use Rattle.e3_law_rounds.specs.Queues.{falls}
-use Rattle.e3_law_rounds.specs.Rounds.{elects}
-use Rattle.e3_law_rounds.proofs.Beginning.{kept_site}
+use Rattle.e3_laws.specs.rounds.Queues.{falls}
+use Rattle.e3_laws.specs.rounds.Rounds.{elects}
+use Rattle.e3_laws.proofs.rounds.Beginning.{kept_site}
 use Rattle.e3_play.specs.Reports.{is_fall_of, one_falls}
 use Rattle.e3_play.specs.Rounds.{AfterRound}
 use Rattle.e3_readings.specs.RoundOf.{round_of}

@@ -17,8 +17,8 @@ use Rattle.e3_world.proofs.Guards.{deliver_first, drop_first, guard_step, lines_
 use Rattle.e3_world.proofs.Pushes.{legal_push}
 use Rattle.e3_world.proofs.Readings.{to_push}
 use Rattle.e3_world.proofs.Turns.{through, through_push}
-use Rattle.e3_law_local.specs.Settling.{TakingLowers}
-use Rattle.e3_law_local.proofs.Measure.Left.{left, left_falls}
+use Rattle.e3_laws.specs.local.Settling.{TakingLowers}
+use Rattle.e3_laws.proofs.local.Measure.Left.{left, left_falls}
 use Rattle.e3_play.specs.Delivered.{Delivers, Nothing, Then}
 use Rattle.e3_play.specs.Entering.{AfterInput, AfterPacket, fall_of}
 

@@ -11,7 +11,7 @@ use Rattle.e3_types.specs.declared.records.Record.{Record}
 use Rattle.e3_types.specs.declared.verdicts.Verdict.{Verdict}
 use Rattle.e3_world.specs.Items.{RecoveryRound}
 use Rattle.e3_world.proofs.Turns.{self}
-use Rattle.e3_law_rounds.specs.Rounds.{verdicts_at, verdicts_told, verdict_in, verdicts_in}
+use Rattle.e3_laws.specs.rounds.Rounds.{verdicts_at, verdicts_told, verdict_in, verdicts_in}
 use Rattle.e3_play.specs.Reports.{later, later_of, verdict_of}
 
 -- one more list of those that are folded

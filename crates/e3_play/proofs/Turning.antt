@@ -13,8 +13,8 @@ use Rattle.e3_world.specs.Packets.{pending}
 use Rattle.e3_world.proofs.Readings.{since_push}
 use Rattle.e3_world.proofs.Turns.{true_not_false}
 use Rattle.e3_play.specs.Entering.{AfterInput, IsFallen, fall_of}
-use Rattle.e3_law_rounds.specs.Rounds.{RoundEnds, RoundStands, elect_entry}
-use Rattle.e3_law_rounds.proofs.Whole.{rounds_end}
+use Rattle.e3_laws.specs.rounds.Rounds.{RoundEnds, RoundStands, elect_entry}
+use Rattle.e3_laws.proofs.rounds.Whole.{rounds_end}
 use Rattle.e3_play.specs.Reports.{HadTurns, IsReport, IsTurn, is_fall_of, one_falls, verdict_of}
 use Rattle.e3_play.specs.Rounds.{AfterRound, IsMade, IsPassed}
 use Rattle.e3_play.specs.declared.reporting.RoundReport.{RoundReport}

@@ -1,8 +1,8 @@
 -- What a recovery step leaves, and what is reported of its rounds.
 use Rattle.std.specs.Prelude.{◌≡◌, ◌==◌, ◌&&◌, ◌++◌, ◌∷◌, [], ℕ, Bool, true, false, List, if◌then◌else◌, drop, length, fold, Option, Some, None}
 use Rattle.std.specs.List.{list_any}
-use Rattle.e3_law_rounds.specs.Queues.{falls}
-use Rattle.e3_law_rounds.specs.Rounds.{RoundEnds, ToldVerdict, verdicts_told}
+use Rattle.e3_laws.specs.rounds.Queues.{falls}
+use Rattle.e3_laws.specs.rounds.Rounds.{RoundEnds, ToldVerdict, verdicts_told}
 use Rattle.e3_play.specs.declared.reporting.RoundReport.{RoundReport}
 use Rattle.e3_play.specs.Rounds.{AfterRound}
 use Rattle.e3_types.specs.declared.entries.Entry.{Entry}

@@ -9,7 +9,7 @@ ghost use Rattle.e3_world.specs.Items.{items_through, to_line};
 ghost use Rattle.e3_world.specs.Progress.{Delivering};
 
 use crate::{RunFault, Sites};
-use e3_law_local::taking_lowers_the_measure;
+use e3_laws::local::taking_lowers_the_measure;
 use e3_types::{Input, Packet};
 
 // The first pending packet: its site takes it, or it is dropped where that site is down.

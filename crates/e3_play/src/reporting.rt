@@ -1,7 +1,7 @@
 // What is reported of a round: the verdict that its elector told.
 ghost use Rattle.std.specs.Prelude.{◌≡◌, fold};
 ghost use Rattle.std.specs.List.{flat_map};
-ghost use Rattle.e3_law_rounds.specs.Rounds.{verdicts_at, verdict_in};
+ghost use Rattle.e3_laws.specs.rounds.Rounds.{verdicts_at, verdict_in};
 ghost use Rattle.e3_play.specs.Reports.{later, later_of, verdict_of};
 
 use e3_readings::RecoveryRound;

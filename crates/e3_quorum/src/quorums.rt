@@ -4,7 +4,7 @@ ghost use Rattle.e3_types.specs.Quorums.{weight_of, is_quorum};
 
 use e3_types::SiteSet;
 
-/// The weight of a site: site k has the k-th weight, and 0 where there is none.
+/// The weight of a site: site k has the k-th weight, and 0 where there is none. Site 0, which no set has, is taken for site 1.
 pub fn weight_at(weights: &[u32], site: u32) -> u32
     ensures { result ≡ slice_index weights.now (site - 1) }
 {
@@ -14,7 +14,7 @@ pub fn weight_at(weights: &[u32], site: u32) -> u32
     }
 }
 
-/// The sum of the weights of these sites. The k-th weight is that of site k; a site without a weight has 0.
+/// The sum of the weights of these sites. The k-th weight is that of site k; a site without a weight has 0; no set has site 0.
 #[tactic(auto, using(crate::proofs::Sums::weight_cons))]
 pub fn weight_of(weights: &[u32], sites: SiteSet) -> u64
     ensures weight { result ≡ weight_of weights.now sites }

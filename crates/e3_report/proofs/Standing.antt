@@ -8,7 +8,7 @@ use Rattle.e3_world.specs.Moves.{Placed, own_entries, trail_of, all_records}
 use Rattle.e3_world.specs.Packets.{all_sites}
 use Rattle.e3_report.specs.Report.{present_inc, site_heading, log_lines, site_lines, order_lines, report_without_trace}
 use Rattle.e3_report.specs.Steps.{start_lines, steps_after}
-use Rattle.e3_lines.specs.Texts.{line_end}
+use Rattle.e3_report.specs.lines.Texts.{line_end}
 use Rattle.e3_report.specs.Walk.{site_by, report_by, walk_of}
 use Rattle.e3_report.proofs.Walking.{trail_log, walk_placed}
 

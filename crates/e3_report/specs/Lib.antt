@@ -9,3 +9,4 @@ pub mod Walk
 pub mod Tables
 pub mod Summary
 pub mod Tallies
+pub mod lines

@@ -12,10 +12,10 @@ use Rattle.e3_world.specs.Logs.{table_of}
 use Rattle.e3_world.specs.Moves.{Placed, own_entries, log_of, trail_of, all_records}
 use Rattle.e3_world.specs.Packets.{all_sites}
 use Rattle.e3_world.specs.Serial.{commit_order}
-use Rattle.e3_lines.specs.Records.{record_lines, row_line}
+use Rattle.e3_report.specs.lines.Records.{record_lines, row_line}
 use Rattle.e3_report.specs.Steps.{start_lines, steps_after}
-use Rattle.e3_lines.specs.Texts.{line_end, txn_text}
-use Rattle.e3_lines.specs.Entries.{trace_of}
+use Rattle.e3_report.specs.lines.Texts.{line_end, txn_text}
+use Rattle.e3_report.specs.lines.Entries.{trace_of}
 
 -- a transaction's line
 unfoldable pub txn_line : Txn → List ℕ

@@ -10,8 +10,8 @@ use Rattle.e3_world.specs.Items.{inputs_of, is_delivery}
 use Rattle.e3_world.specs.Moves.{own_entries}
 use Rattle.e3_report.specs.declared.takers.Taker.{Taker}
 use Rattle.e3_report.specs.declared.takers.Taker.TheVariants.{Site, NotBegun, Nobody}
-use Rattle.e3_lines.specs.Events.{word_line}
-use Rattle.e3_lines.specs.Texts.{line_end}
+use Rattle.e3_report.specs.lines.Events.{word_line}
+use Rattle.e3_report.specs.lines.Texts.{line_end}
 
 -- an item for the coordinator of the transaction, where its name is bound
 abbrev pub to_coordinator : List ℕ → Option Txn → Taker

@@ -10,10 +10,10 @@ use Rattle.e3_types.specs.declared.transactions.Txn.{Txn}
 use Rattle.e3_world.specs.Items.{txn_of}
 use Rattle.e3_world.specs.Moves.{own_entries, is_up}
 use Rattle.e3_world.specs.Packets.{is_line, step_items, all_sites}
-use Rattle.e3_lines.specs.Events.{entry_lines}
-use Rattle.e3_lines.specs.Items.{item_line}
+use Rattle.e3_report.specs.lines.Events.{entry_lines}
+use Rattle.e3_report.specs.lines.Items.{item_line}
 use Rattle.e3_report.specs.Skips.{skip_lines}
-use Rattle.e3_lines.specs.Texts.{line_end}
+use Rattle.e3_report.specs.lines.Texts.{line_end}
 
 -- the entries up to the next line
 abbrev pub until_line : List Entry → List Entry

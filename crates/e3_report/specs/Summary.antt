@@ -15,7 +15,7 @@ use Rattle.e3_types.specs.declared.transactions.Txn.{Txn}
 use Rattle.e3_types.specs.Same.{same_txn}
 use Rattle.e3_world.specs.Moves.{Placed, trail_of, all_records}
 use Rattle.e3_world.specs.Serial.{commit_order}
-use Rattle.e3_lines.specs.Texts.{line_end}
+use Rattle.e3_report.specs.lines.Texts.{line_end}
 use Rattle.e3_report.specs.declared.summing.Kind.{Kind}
 use Rattle.e3_report.specs.declared.summing.Kind.TheVariants as kind
 

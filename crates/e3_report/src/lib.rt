@@ -1,10 +1,12 @@
-//! The report of a scenario and its history: the text that a run writes.
+//! The report of a scenario and its history: the text that a run writes. The lines that it is made of, and those of a trace,
+//! stand in `lines`.
 #![tactic(auto)]
 
 mod counts;
 mod decisions;
 mod keys;
 mod known;
+pub mod lines;
 mod logs;
 mod names;
 mod orders;

@@ -1,14 +1,14 @@
 // The committed transactions, in the order of their last votes.
 ghost use Rattle.std.specs.Prelude.{◌≡◌, ◌++◌, IfOk, OnOk, codes};
 ghost use Rattle.std.specs.List.{flat_map};
-ghost use Rattle.e3_lines.specs.Texts.{line_end};
+ghost use Rattle.e3_report.specs.lines.Texts.{line_end};
 ghost use Rattle.e3_world.specs.Serial.{commit_order};
 ghost use Rattle.e3_report.specs.Orders.{with_vote, last_vote, backward};
 ghost use Rattle.e3_report.specs.Report.{txn_line, order_lines};
 
 use crate::decisions::decided;
 use crate::keys::TxnSet;
-use e3_lines::{push_line, push_line_end, push_txn};
+use crate::lines::{push_line, push_line_end, push_txn};
 use e3_readings::SiteRecord;
 use e3_types::{Dir, List, NoMemory, Record, Txn};
 use std::alloc::Global;

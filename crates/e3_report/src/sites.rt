@@ -1,13 +1,13 @@
 // The part of a report that tells how each site stands.
 ghost use Rattle.std.specs.Prelude.{◌≡◌, ◌++◌, [], Option, OnOk, codes, fold};
 ghost use Rattle.std.specs.List.{flat_map};
-ghost use Rattle.e3_lines.specs.Records.{record_lines, row_line};
-ghost use Rattle.e3_lines.specs.Texts.{line_end};
+ghost use Rattle.e3_report.specs.lines.Records.{record_lines, row_line};
+ghost use Rattle.e3_report.specs.lines.Texts.{line_end};
 ghost use Rattle.e3_world.specs.Moves.{own_entries};
 ghost use Rattle.e3_report.specs.Report.{inc_by, present_inc, site_heading, log_lines};
 
+use crate::lines::{push_labelled, push_line, push_line_end, push_records, push_rows};
 use crate::tables::table_of;
-use e3_lines::{push_labelled, push_line, push_line_end, push_records, push_rows};
 use e3_types::{Act, Entry, List, NoMemory, Record, Row};
 use std::alloc::Global;
 

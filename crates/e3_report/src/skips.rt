@@ -7,8 +7,8 @@ ghost use Rattle.e3_report.specs.Ups.{up_in};
 
 use crate::counts::one_more;
 use crate::known::Known;
+use crate::lines::{push_line, push_text, push_word_line};
 use crate::takers::{Taker, taker_of};
-use e3_lines::{push_line, push_text, push_word_line};
 use e3_readings::is_delivery;
 use e3_types::{Act, Entry, Input, Item, List, NoMemory};
 use std::alloc::Global;

@@ -7,9 +7,9 @@ ghost use Rattle.e3_report.specs.Ups.{up_in};
 ghost use Rattle.e3_report.specs.Steps.{until_line, site_events, event_lines, start_lines, step_heading, step_lines, lines_by, steps_after};
 
 use crate::known::Known;
+use crate::lines::{push_entry, push_items, push_labelled, push_line, push_line_end};
 use crate::skips::push_skips;
 use crate::ups::enter_up;
-use e3_lines::{push_entry, push_items, push_labelled, push_line, push_line_end};
 use e3_readings::{is_line, step_items};
 use e3_types::{Act, Entry, List, NoMemory, Scenario};
 use std::alloc::Global;

@@ -5,11 +5,11 @@ ghost use Rattle.e3_world.specs.Packets.{all_sites};
 ghost use Rattle.e3_report.specs.Report.{report_without_trace, trace_lines, report_of};
 ghost use Rattle.e3_report.specs.Walk.{site_by, report_by};
 
+use crate::lines::{push_line, push_trace};
 use crate::logs::{log_in, walk_of};
 use crate::orders::push_order;
 use crate::sites::{present_inc, push_log, push_site_heading};
 use crate::steps::{push_start, push_steps};
-use e3_lines::{push_line, push_trace};
 use e3_readings::SiteRecord;
 use e3_types::{Entry, List, NoMemory, Scenario};
 use e3_world::History;

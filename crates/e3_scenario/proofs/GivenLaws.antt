@@ -22,7 +22,7 @@ use Rattle.std.specs.Option.{option_map_or}
 use Rattle.e3_scenario.specs.Documents.{document, keys_known, kind_fault, values_of, values_at, number_within, weight_of, more_weights, weights_of, row_with, row_of, row_in, more_rows, share_at, luck_at, step_size, sizes_fit, steps_fit}
 use Rattle.e3_scenario.specs.Parts.{key_of, value_of}
 use Rattle.e3_scenario.specs.Words.{is_printable, before, after}
-use Rattle.e3_lines.specs.Marks.{space}
+use Rattle.e3_report.specs.lines.Marks.{space}
 use Rattle.e3_scenario.specs.declared.faults.Field.{Field}
 use Rattle.e3_scenario.specs.declared.faults.Field.TheVariants as field
 use Rattle.e3_scenario.specs.Scenarios.{or_range, repeat_with, base_in, no_items_yet, fields_in, by_kind, by_document, scenario_of}

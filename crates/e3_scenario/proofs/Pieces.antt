@@ -5,7 +5,7 @@ use Rattle.std.proofs.Common.{◌≤◌, cond, not, nat_lt, arith, ◌≡◌, �
 use Rattle.std.specs.Prelude.{option_map, unwrap_or}
 use Rattle.e3_types.specs.Sets.{with_site}
 use Rattle.e3_scenario.specs.Words.{before, after}
-use Rattle.e3_lines.specs.Marks.{comma, in_front, pieces}
+use Rattle.e3_report.specs.lines.Marks.{comma, in_front, pieces}
 use Rattle.e3_scenario.specs.Parts.{site_of, sites_above}
 
 -- the pieces behind the first

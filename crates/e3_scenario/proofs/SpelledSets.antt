@@ -11,7 +11,7 @@ use Rattle.e3_types.specs.Sets.{ascends, is_set, with_site}
 use Rattle.e3_types.specs.declared.scenarios.Item.{Item}
 use Rattle.e3_types.specs.declared.scenarios.Item.TheVariants as item
 use Rattle.e3_scenario.specs.Words.{before, after, rest, word}
-use Rattle.e3_lines.specs.Marks.{space, comma, bar, pieces}
+use Rattle.e3_report.specs.lines.Marks.{space, comma, bar, pieces}
 use Rattle.e3_scenario.specs.Parts.{digits_from, has_leading_zero, is_digit, site_of, sites_above, sites_of, more_parts, parts_of}
 use Rattle.e3_scenario.specs.Items.{begin_of, read_of, write_of, commit_of, cancel_of, expire_of, elect_of, recover_of, split_of, merge_of, crash_of, restart_of, stop_of, transaction_item, site_item, item_by, item_of}
 use Rattle.e3_scenario.proofs.Pieces.{pieces_cut, more_pieces}

@@ -14,7 +14,7 @@ use Rattle.e3_scenario.specs.declared.faults.Field.{Field}
 use Rattle.e3_scenario.specs.declared.faults.Field.TheVariants as field
 use Rattle.e3_scenario.specs.Parts.{key_of, value_of}
 use Rattle.e3_scenario.specs.Words.{is_printable, before, after}
-use Rattle.e3_lines.specs.Marks.{space}
+use Rattle.e3_report.specs.lines.Marks.{space}
 
 -- the document that bytes spell: text in UTF-8, read by the grammar of TOML 1.1
 abbrev pub document : List ℕ → Option Members

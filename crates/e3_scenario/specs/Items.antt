@@ -7,7 +7,7 @@ use Rattle.e3_types.specs.declared.scenarios.Item.{Item}
 use Rattle.e3_types.specs.declared.scenarios.Item.TheVariants.{Begin, Read, Write, Commit, Cancel, Expire, Elect, Recover, Split, Merge, Crash, Restart, Stop}
 use Rattle.e3_types.specs.declared.scenarios.Leave.{Leave}
 use Rattle.e3_scenario.specs.Words.{is_printable, before, rest, word}
-use Rattle.e3_lines.specs.Marks.{space}
+use Rattle.e3_report.specs.lines.Marks.{space}
 use Rattle.e3_scenario.specs.Parts.{name_of, value_of, site_of, sites_of, key_of, count_of, leave_of, parts_of}
 
 -- begin NAME SITE SITES

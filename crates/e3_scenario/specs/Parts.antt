@@ -5,9 +5,9 @@ use Rattle.e3_types.specs.declared.scenarios.Leave.{Leave}
 use Rattle.e3_types.specs.declared.scenarios.Leave.TheVariants as leave
 use Rattle.e3_types.specs.declared.transactions.Key.{Key}
 -- NAME, VALUE, and digits
-pub use Rattle.e3_lines.specs.Spelled.{name_of, value_of, is_digit, digits_from}
+pub use Rattle.e3_report.specs.lines.Spelled.{name_of, value_of, is_digit, digits_from}
 use Rattle.e3_scenario.specs.Words.{before, after, rest}
-use Rattle.e3_lines.specs.Marks.{space, point, comma, bar, pieces}
+use Rattle.e3_report.specs.lines.Marks.{space, point, comma, bar, pieces}
 
 -- the text begins with the digit 0
 abbrev pub has_leading_zero : List ℕ → Bool

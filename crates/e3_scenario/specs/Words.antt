@@ -1,6 +1,6 @@
 -- The text of an item, cut into words.
 use Rattle.std.specs.Prelude.{ℕ, zero, suc, ◌+◌, ◌==◌, Bool, ◌&&◌, nat_le, List, drop, take, position, Option, Some, option_map, option_and_then, unwrap_or}
-use Rattle.e3_lines.specs.Marks.{space}
+use Rattle.e3_report.specs.lines.Marks.{space}
 
 -- a byte that an item may have: a printable one, from hexadecimal 20 to 7E
 abbrev pub is_printable : ℕ → Bool

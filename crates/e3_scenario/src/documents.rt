@@ -9,7 +9,7 @@ ghost use Rattle.e3_scenario.specs.Documents.{is_known, keys_known, values_of, i
 use crate::faults::Field;
 use crate::parts::key;
 use crate::words::{SPACE, after, before, is_all_printable};
-use e3_lines::value_of;
+use e3_report::lines::value_of;
 use e3_types::{KeyRow, List, NoMemory, SiteSet};
 use std::alloc::Global;
 use toml::{Table, Value};

@@ -3,7 +3,7 @@ ghost use Rattle.std.specs.Prelude.{◌≡◌, ◌++◌, IfOk, OnOk};
 ghost use Rattle.e3_scenario.specs.Faults.{field_word, fault_words, fault_text};
 
 use crate::faults::{Field, ScenarioFault};
-use e3_lines::{push_labelled, push_text};
+use e3_report::lines::{push_labelled, push_text};
 use e3_types::{List, NoMemory};
 use std::alloc::Global;
 

@@ -1,10 +1,10 @@
 // The parts of an item: names, values, sites, keys, counts and leaves, and the parts of a split.
 ghost use Rattle.std.specs.Prelude.{◌≡◌, ◌≤◌, IfOk, IfSome};
 ghost use Rattle.e3_scenario.specs.Parts.{has_leading_zero, number_of, site_of, sites_above, sites_of, key_of, count_of, byte_of, junk_of, leave_of, parts_of};
-ghost use Rattle.e3_lines.specs.Marks.{comma, pieces};
+ghost use Rattle.e3_report.specs.lines.Marks.{comma, pieces};
 
 use crate::words::{BAR, COMMA, POINT, SPACE, after, before, rest};
-use e3_lines::{is_text, name_of, number_of_digits, one_of};
+use e3_report::lines::{is_text, name_of, number_of_digits, one_of};
 use e3_types::{Key, Leave, List, NoMemory, SiteSet};
 use std::alloc::Global;
 

@@ -3,7 +3,7 @@ ghost use Rattle.std.specs.Prelude.{◌≡◌, ◌<◌, length, IfSome, option_c
 ghost use Rattle.std.specs.List.{list_all};
 ghost use Rattle.e3_scenario.specs.Words.{is_printable, before, after, rest, word};
 
-use e3_lines::place_of;
+use e3_report::lines::place_of;
 
 /// The byte between two words.
 pub const SPACE: u8 = b' ';

@@ -16,12 +16,12 @@ use Rattle.e3_world.proofs.Pushes.{incarnation_push, log_push, past_push, presen
 use Rattle.e3_world.proofs.Readings.{own_same}
 use Rattle.e3_world.proofs.Turns.{self}
 use Rattle.e3_readings.specs.Opens.{open_in}
-use Rattle.e3_law_brief.specs.Alike.{ReadAlike}
+use Rattle.e3_laws.specs.brief.Alike.{ReadAlike}
 use Rattle.e3_world.specs.Brief.{txns_of}
 use Rattle.e3_world.specs.Orderly.{IsOrderly}
 use Rattle.e3_world.specs.Transactions.{IsFoundByBits}
-use Rattle.e3_law_brief.specs.Incarnations.{AlikeNow, IsInOrder}
-use Rattle.e3_law_brief.proofs.Alike.Laws.{opens_alike, rises_alike, self_alike, steps_alike, turned_alike}
+use Rattle.e3_laws.specs.brief.Incarnations.{AlikeNow, IsInOrder}
+use Rattle.e3_laws.proofs.brief.Alike.Laws.{opens_alike, rises_alike, self_alike, steps_alike, turned_alike}
 use Rattle.e3_site.specs.AlikeLaws.{ExactIsAlike, GoesOnAlike, ListsOpenAlike, PlansAlike, RisesAlike, StillAlike}
 use Rattle.e3_site.specs.StandsAlike.{IsLogInOrder, StandsAlike, now_with}
 use Rattle.e3_site.specs.SiteView.{SiteView, Stands, risen_with, step_kept, with_step}

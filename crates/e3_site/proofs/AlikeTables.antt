@@ -15,12 +15,12 @@ use Rattle.e3_world.specs.declared.lives.Incarnation.{Incarnation}
 use Rattle.e3_world.specs.declared.lives.Life.{Life}
 use Rattle.e3_world.specs.declared.lives.SiteStep.{SiteStep}
 use Rattle.e3_world.proofs.Pushes.{life_log, life_log_at, present_is_log}
-use Rattle.e3_law_brief.specs.Alike.{ReadAlike}
+use Rattle.e3_laws.specs.brief.Alike.{ReadAlike}
 use Rattle.e3_world.specs.Transactions.{IsFoundByBits}
-use Rattle.e3_law_brief.specs.Incarnations.{AlikeNow, IsInOrder as IsInOrderNow}
-use Rattle.e3_law_brief.proofs.Alike.Laws.{logs_alike, orders_alike, turned_alike}
-use Rattle.e3_law_serial.specs.Orderly.{LogsAreOrderly}
-use Rattle.e3_law_steps.specs.Trails.{TrailsAreSound}
+use Rattle.e3_laws.specs.brief.Incarnations.{AlikeNow, IsInOrder as IsInOrderNow}
+use Rattle.e3_laws.proofs.brief.Alike.Laws.{logs_alike, orders_alike, turned_alike}
+use Rattle.e3_laws.specs.serial.Orderly.{LogsAreOrderly}
+use Rattle.e3_laws.specs.steps.Trails.{TrailsAreSound}
 use Rattle.e3_site.specs.SiteView.{SiteView}
 use Rattle.e3_site.specs.StandsAlike.{StandsAlike, now_with}
 use Rattle.e3_site.specs.Tables.{IsInOrder}

@@ -24,9 +24,9 @@ use Rattle.e3_world.specs.declared.lives.Life.{Life}
 use Rattle.e3_world.specs.Items.{txn_of_record}
 use Rattle.e3_world.specs.Logs.{is_undecided, ops_of_vote, voted_ops}
 use Rattle.e3_world.specs.Brief.{noted, open_ops, txns_of}
-use Rattle.e3_law_brief.proofs.Readings.{own_of, none_of, elected_from, attempt_from, attempted_from, decision_from, voted_from}
-use Rattle.e3_law_steps.proofs.Ascending.{IsLater, Ascends, ascends_fold, off_fold, same_from}
-use Rattle.e3_law_steps.proofs.Tests.{same_is, same_self}
+use Rattle.e3_laws.proofs.brief.Readings.{own_of, none_of, elected_from, attempt_from, attempted_from, decision_from, voted_from}
+use Rattle.e3_laws.proofs.steps.Ascending.{IsLater, Ascends, ascends_fold, off_fold, same_from}
+use Rattle.e3_laws.proofs.steps.Tests.{same_is, same_self}
 use Rattle.e3_cards.specs.declared.card.Card.{Card}
 use Rattle.e3_cards.specs.declared.keys.TxnKey.{TxnKey}
 use Rattle.e3_cards.specs.declared.seen.Seen.{Seen}

@@ -5,8 +5,8 @@ use Rattle.e3_types.specs.declared.records.Record.TheVariants as log
 use Rattle.e3_types.specs.declared.transactions.Row.{Row}
 use Rattle.e3_world.specs.Orderly.{weights_in, MayFollow, OrderlyAfter, IsOrderly}
 use Rattle.e3_world.specs.Brief.{born_by, born_in}
-use Rattle.e3_law_brief.proofs.Lists.{no_push}
-use Rattle.e3_law_brief.proofs.Shape.{keeps_weights}
+use Rattle.e3_laws.proofs.brief.Lists.{no_push}
+use Rattle.e3_laws.proofs.brief.Shape.{keeps_weights}
 
 follows_none : (site : ℕ) (rows : List Row) (before : List Record) (r : Record) → before ≢ [] → MayFollow site before r → born_by rows r ≡ []
 follows_none site rows before (log.Birth format number weights was) some may = absurd (some may.first)

@@ -6,9 +6,9 @@ use Rattle.e3_types.specs.declared.records.Record.{Record}
 use Rattle.e3_types.specs.declared.records.Record.TheVariants as log
 use Rattle.e3_types.specs.declared.transactions.Txn.{Txn}
 use Rattle.e3_world.specs.Orderly.{is_known, IsOrderly, MayFollow, OrderlyAfter}
-use Rattle.e3_past.specs.declared.logged.Logged.{Logged}
-use Rattle.e3_past.specs.Standing.{LoggedStand, may_all_be_read, may_be_read}
-use Rattle.e3_law_steps.proofs.Adding.{idle_open}
+use Rattle.e3_site.specs.declared.past.logged.Logged.{Logged}
+use Rattle.e3_site.specs.past.Standing.{LoggedStand, may_all_be_read, may_be_read}
+use Rattle.e3_laws.proofs.steps.Adding.{idle_open}
 
 -- no transaction is known where there is no record
 none_known : (site : ℕ) (t : Txn) (r : Record) → is_known site [] t ≡ true → may_be_read [] r ≡ true

@@ -17,15 +17,15 @@ use Rattle.e3_world.specs.Sound.{IsSound, IsSoundMove, SoundAfter}
 use Rattle.e3_world.proofs.Pushes.{life_log_at, log_push}
 use Rattle.e3_world.proofs.Trails.{trail_moves}
 use Rattle.e3_world.specs.Brief.{txns_of}
-use Rattle.e3_law_serial.specs.Orderly.{LogsAreOrderly}
-use Rattle.e3_law_agreement.proofs.Refinement.Following.{moves_here, moves_there}
-use Rattle.e3_law_serial.proofs.Site.Sites.{AllKeep, SiteKeeps, all_keep, move_keeps}
-use Rattle.e3_law_serial.proofs.Told.Whole.{all_stand}
-use Rattle.e3_law_steps.specs.Trails.{TrailsAreSound}
+use Rattle.e3_laws.specs.serial.Orderly.{LogsAreOrderly}
+use Rattle.e3_laws.proofs.agreement.Refinement.Following.{moves_here, moves_there}
+use Rattle.e3_laws.proofs.serial.Site.Sites.{AllKeep, SiteKeeps, all_keep, move_keeps}
+use Rattle.e3_laws.proofs.serial.Told.Whole.{all_stand}
+use Rattle.e3_laws.specs.steps.Trails.{TrailsAreSound}
 use Rattle.e3_world.specs.Transactions.{IsFoundByBits}
 use Rattle.e3_site.specs.Tables.{IsInOrder}
 use Rattle.e3_site.proofs.Fronts.{rest_weights}
-use Rattle.e3_law_brief.proofs.Sets.{txns_known}
+use Rattle.e3_laws.proofs.brief.Sets.{txns_known}
 
 -- a log that is not empty begins with the site's birth and an incarnation
 abbrev Begun : Scenario → ℕ → List Record → Type 0

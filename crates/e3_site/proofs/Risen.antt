@@ -3,16 +3,16 @@ use Rattle.std.proofs.Common.{◌≡◌, ◌≢◌, ◌<◌, ◌++◌, ◌∷◌
 use Rattle.e3_types.specs.declared.records.Record.{Record}
 use Rattle.e3_types.specs.declared.records.Record.TheVariants as log
 use Rattle.e3_types.specs.declared.scenarios.Scenario.{Scenario}
-use Rattle.e3_past.specs.Standing.{TablesStand}
-use Rattle.e3_past.specs.declared.tables.Tables.{Tables}
+use Rattle.e3_site.specs.past.Standing.{TablesStand}
+use Rattle.e3_site.specs.declared.past.tables.Tables.{Tables}
 use Rattle.e3_site.specs.SiteView.{SiteView, Stands, risen_with}
 use Rattle.e3_site.specs.StandsFor.{StandsRisen}
 use Rattle.e3_world.specs.Lives.{life_of}
 use Rattle.e3_world.specs.Orderly.{weights_by, weights_in, IsOrderly, OrderlyAfter, MayFollow}
 use Rattle.e3_site.specs.Rebuilt.{IsRebuilt, StandsForBrief, StandsForEach}
-use Rattle.e3_law_brief.specs.Alike.{ReadAlike}
-use Rattle.e3_law_brief.proofs.Laws.{are_some, same_alike}
-use Rattle.e3_law_serial.specs.Orderly.{LogsAreOrderly}
+use Rattle.e3_laws.specs.brief.Alike.{ReadAlike}
+use Rattle.e3_laws.proofs.brief.Laws.{are_some, same_alike}
+use Rattle.e3_laws.specs.serial.Orderly.{LogsAreOrderly}
 use Rattle.e3_world.specs.Brief.{brief}
 use Rattle.e3_world.specs.Moves.{log_of}
 use Rattle.e3_site.proofs.Alike.{rises}

@@ -2,11 +2,11 @@
 use Rattle.std.proofs.Common.{◌≡◌, true, ℕ, List, [], ◌∷◌, ◌++◌, refl, sym, subst, ap, ◌∙◌, fold, Result, Ok, Err, IfOk}
 use Rattle.std.proofs.lemmas.List.Sums.{fold-append}
 use Rattle.e3_readings.specs.Opens.{open_in}
-use Rattle.e3_past.proofs.RecordsFollow.{step_follows}
-use Rattle.e3_past.specs.Standing.{TablesStand}
-use Rattle.e3_past.specs.Stepping.{ActAlike, IsMadeOf}
-use Rattle.e3_past.specs.declared.tables.Behind.{Behind}
-use Rattle.e3_past.specs.declared.tables.Tables.{Tables}
+use Rattle.e3_site.proofs.past.RecordsFollow.{step_follows}
+use Rattle.e3_site.specs.past.Standing.{TablesStand}
+use Rattle.e3_site.specs.past.Stepping.{ActAlike, IsMadeOf}
+use Rattle.e3_site.specs.declared.past.tables.Behind.{Behind}
+use Rattle.e3_site.specs.declared.past.tables.Tables.{Tables}
 use Rattle.e3_places.specs.Standing.{follow}
 use Rattle.e3_types.specs.declared.list.NoMemory.{NoMemory}
 use Rattle.e3_types.specs.declared.entries.Entry.{Entry}

@@ -13,11 +13,11 @@ use Rattle.e3_types.specs.declared.records.Record.TheVariants as log
 use Rattle.e3_world.specs.declared.lives.Life.{Life}
 use Rattle.e3_world.specs.Logs.{logged_inc, table_of}
 use Rattle.e3_world.specs.Brief.{born_in, brief, inc_in, noted, txns_of}
-use Rattle.e3_law_brief.proofs.Tables.{table_ascends}
+use Rattle.e3_laws.proofs.brief.Tables.{table_ascends}
 use Rattle.e3_cards.specs.Tables.{key_cmp}
 use Rattle.e3_places.specs.Keeping.{at_name}
-use Rattle.e3_past.specs.declared.tables.Tables.{Tables}
-use Rattle.e3_past.specs.Standing.{TablesStand}
+use Rattle.e3_site.specs.declared.past.tables.Tables.{Tables}
+use Rattle.e3_site.specs.past.Standing.{TablesStand}
 use Rattle.e3_site.specs.Tables.{IsInOrder, KeyFits, brief_by, card_notes, front_by, row_at}
 use Rattle.e3_site.proofs.Cards.{cards_told}
 use Rattle.e3_site.proofs.Fronts.{born_one}

@@ -6,8 +6,8 @@ use Rattle.std.proofs.lemmas.List.Sums.{fold-append}
 use Rattle.e3_types.specs.declared.records.Record.{Record}
 use Rattle.e3_world.specs.Logs.{logged_inc, logged_inc_by}
 use Rattle.e3_world.specs.Orderly.{weights_by, IsOrderly}
-use Rattle.e3_past.specs.declared.logged.Logged.{Logged}
-use Rattle.e3_past.specs.Standing.{LoggedStand}
+use Rattle.e3_site.specs.declared.past.logged.Logged.{Logged}
+use Rattle.e3_site.specs.past.Standing.{LoggedStand}
 use Rattle.e3_site.specs.Orderly.{IsFirstDisorder, disorder_after, disorder_in, is_orderly_next}
 use Rattle.e3_site.specs.Reading.{AreRead, IsLogRead}
 use Rattle.e3_site.proofs.Firsts.{disorder_found}

@@ -7,3 +7,4 @@ pub mod Reading
 pub mod Rebuilt
 pub mod Tables
 pub mod Snapshot
+pub mod past

@@ -4,8 +4,8 @@ use Rattle.std.specs.Option.{IsSome}
 use Rattle.e3_types.specs.declared.records.Record.{Record}
 use Rattle.e3_world.specs.Logs.{logged_inc}
 use Rattle.e3_world.specs.Orderly.{weights_in, IsOrderly}
-use Rattle.e3_past.specs.declared.logged.Logged.{Logged}
-use Rattle.e3_past.specs.Standing.{LoggedStand}
+use Rattle.e3_site.specs.declared.past.logged.Logged.{Logged}
+use Rattle.e3_site.specs.past.Standing.{LoggedStand}
 use Rattle.e3_site.specs.declared.disorder.Walk.{Walk}
 use Rattle.e3_site.specs.declared.disorder.Walk.TheVariants.{Log, Disorder}
 use Rattle.e3_site.specs.Orderly.{IsFirstDisorder}

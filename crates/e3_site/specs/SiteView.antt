@@ -1,9 +1,9 @@
 -- What a site keeps, what it stands for, and what a plan of it is.
 use Rattle.std.specs.Prelude.{◌++◌, ◌∷◌, [], if◌then◌else◌, ℕ, suc, nat_lt, List, map}
-use Rattle.e3_past.specs.declared.tables.Behind.{Behind}
-use Rattle.e3_past.specs.declared.tables.Tables.{Tables}
-use Rattle.e3_past.specs.Standing.{TablesStand}
-use Rattle.e3_past.specs.Stepping.{HasRoom, IsMadeOf}
+use Rattle.e3_site.specs.declared.past.tables.Behind.{Behind}
+use Rattle.e3_site.specs.declared.past.tables.Tables.{Tables}
+use Rattle.e3_site.specs.past.Standing.{TablesStand}
+use Rattle.e3_site.specs.past.Stepping.{HasRoom, IsMadeOf}
 use Rattle.e3_types.specs.declared.entries.Act.TheVariants.{Step}
 use Rattle.e3_types.specs.declared.entries.Entry.{Entry}
 use Rattle.e3_types.specs.declared.entries.Input.{Input}

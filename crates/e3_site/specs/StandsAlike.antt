@@ -9,7 +9,7 @@ use Rattle.e3_world.specs.declared.lives.Incarnation.{Incarnation}
 use Rattle.e3_world.specs.Lives.{incarnation_of}
 use Rattle.e3_world.specs.Moves.{moves_of}
 use Rattle.e3_world.specs.Transactions.{IsFoundByBits}
-use Rattle.e3_law_brief.specs.Alike.{ReadAlike}
+use Rattle.e3_laws.specs.brief.Alike.{ReadAlike}
 use Rattle.e3_world.specs.Brief.{txns_of}
 use Rattle.e3_world.specs.Orderly.{IsOrderly}
 use Rattle.e3_site.specs.SiteView.{SiteView, Stands}

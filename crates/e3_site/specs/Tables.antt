@@ -23,7 +23,7 @@ use Rattle.e3_places.specs.declared.keys.TxnId.{TxnId as PlaceKey}
 use Rattle.e3_places.specs.declared.places.Claims.{Claims}
 use Rattle.e3_places.specs.declared.places.Place.{Place}
 use Rattle.e3_places.specs.Keeping.{claims_at, txn_id as place_key}
-use Rattle.e3_past.specs.declared.tables.Tables.{Tables}
+use Rattle.e3_site.specs.declared.past.tables.Tables.{Tables}
 
 -- the transaction of a key
 abbrev pub txn_of : TxnKey → Txn

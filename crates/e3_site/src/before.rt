@@ -12,8 +12,8 @@ ghost use Rattle.e3_readings.specs.Requests.{lock_for};
 
 use crate::headings::weights_in;
 use crate::locks::is_free_among;
+use crate::past::Logged;
 use e3_cards::Seen;
-use e3_past::Logged;
 use e3_places::{Place, Places};
 use e3_readings::{
     attempted, decision, has_voted, key_of, last_attempt, last_elected, lock_for, logged_inc,

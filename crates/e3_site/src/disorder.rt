@@ -7,7 +7,7 @@ ghost use Rattle.e3_site.specs.Reading.{IsWalk};
 use crate::before::{Plain, Tabled};
 use crate::headings::{inc_by, weights_by};
 use crate::order::is_orderly_next;
-use e3_past::Logged;
+use crate::past::Logged;
 use e3_readings::logged_inc;
 use e3_types::{NoMemory, Record};
 use std::alloc::Global;

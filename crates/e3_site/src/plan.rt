@@ -1,11 +1,11 @@
 // A step that a site has planned and not done.
 ghost use Rattle.std.specs.Prelude.{◌≡◌, ◌<◌, ◌^◌, IfOk, length, map};
-ghost use Rattle.e3_past.specs.Stepping.{IsMadeOf};
+ghost use Rattle.e3_site.specs.past.Stepping.{IsMadeOf};
 ghost use Rattle.e3_site.specs.SiteView.{entry_of_plan, step_kept};
 ghost use Rattle.e3_world.specs.Moves.{unnumbered};
 
-use e3_past::{Behind, Tables, behind};
-use e3_plain::{unnumbered, unnumbered_input};
+use crate::past::{Behind, Tables, behind};
+use e3_step::plain::{unnumbered, unnumbered_input};
 use e3_types::{Act, Copied, Entry, Input, List, NoMemory, Packet, Record, Told};
 use e3_world::{Made, SiteStep};
 use std::alloc::Global;

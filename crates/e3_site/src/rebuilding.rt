@@ -1,6 +1,6 @@
 // The site that rose with a log.
 ghost use Rattle.std.specs.Prelude.{◌≡◌, ◌<◌, IfOk, IfErr, length};
-ghost use Rattle.e3_past.specs.Standing.{TablesStand};
+ghost use Rattle.e3_site.specs.past.Standing.{TablesStand};
 ghost use Rattle.e3_site.specs.Rebuilt.{IsFaultOf, IsRebuilt, StandsForBrief, StandsForEach};
 ghost use Rattle.e3_site.specs.SiteView.{risen_with};
 ghost use Rattle.e3_world.specs.Lives.{life_of};
@@ -9,8 +9,8 @@ ghost use Rattle.e3_world.specs.Orderly.{IsOrderly, weights_in};
 use crate::Site;
 use crate::disorder::{Walk, first_disorder, read_in_order};
 use crate::headings::weights_in;
-use e3_law_serial::logs_are_orderly;
-use e3_past::Tables;
+use crate::past::Tables;
+use e3_laws::serial::logs_are_orderly;
 use e3_types::{List, NoMemory, Record};
 use std::alloc::Global;
 

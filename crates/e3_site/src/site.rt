@@ -9,8 +9,8 @@ ghost use Rattle.e3_world.specs.declared.lives.Incarnation.{Incarnation};
 ghost use Rattle.e3_world.specs.Lives.{life_of};
 ghost use Rattle.e3_world.specs.Logs.{logged_inc};
 
+use crate::past::{Tables, apply, open_with, ready, step_with};
 use crate::plan::Plan;
-use e3_past::{Tables, apply, open_with, ready, step_with};
 use e3_types::{Input, List, NoMemory, Txn};
 use e3_world::SiteStep;
 use std::alloc::Global;
@@ -30,7 +30,7 @@ pub struct Site {
 
 impl Model for Site {
     ghost use Rattle.std.specs.Coded.{codes};
-    ghost use Rattle.e3_past.specs.contracts.tables.Tables as t;
+    ghost use Rattle.e3_site.specs.contracts.past.tables.Tables as t;
     ghost use Rattle.e3_site.specs.SiteView.{SiteView};
 
     ghost Value = { SiteView };

@@ -9,8 +9,8 @@ ghost use Rattle.e3_world.specs.Lives.{life_of, present_log};
 
 use crate::Site;
 use crate::tables::of_tables;
-use e3_law_serial::logs_are_orderly;
-use e3_law_steps::trails_are_sound;
+use e3_laws::serial::logs_are_orderly;
+use e3_laws::steps::trails_are_sound;
 use e3_types::{List, NoMemory, Record};
 use std::alloc::Global;
 

@@ -8,15 +8,15 @@ ghost use Rattle.std.specs.Cmp.Lexicographic.{slice_cmp};
 ghost use Rattle.std.specs.Ordering.{nat_cmp};
 ghost use Rattle.e3_cards.specs.Tables.{key_cmp};
 ghost use Rattle.e3_world.specs.Brief.{brief};
-ghost use Rattle.e3_past.specs.Standing.{TablesStand};
+ghost use Rattle.e3_site.specs.past.Standing.{TablesStand};
 ghost use Rattle.e3_places.specs.Keeping.{at_name};
 ghost use Rattle.e3_site.specs.Tables.{IsInOrder, KeyFits, brief_by, card_notes, front_by, op_of, ops_at, row_at, txn_of};
 ghost use Rattle.e3_types.specs.Sites.{bits_of, sites_of};
 ghost use Rattle.e3_world.specs.declared.lives.Life.{Life};
 
 use crate::notes::add_seen;
+use crate::past::Tables;
 use e3_cards::{Card, TxnKey};
-use e3_past::Tables;
 use e3_places::{Claims, Place, TxnId as PlaceKey, txn_id as place_key};
 use e3_types::{Answer, List, Name, NoMemory, NumOp, Record, Row, SiteSet, Txn};
 use e3_world::Asked;

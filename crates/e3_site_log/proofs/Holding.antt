@@ -3,10 +3,10 @@ use Rattle.std.proofs.Common.{◌≡◌, ◌++◌, ◌∷◌, [], ℕ, List, ref
 use Rattle.e3_codec.specs.Fields.{AllCanBeReadBack}
 use Rattle.e3_world.specs.Brief.{brief}
 use Rattle.e3_world.specs.Orderly.{IsOrderly, OrderlyAfter}
-use Rattle.e3_law_brief.proofs.Following.{brief_orderly}
-use Rattle.e3_law_brief.proofs.Going.{orderly_on, read_on}
-use Rattle.e3_law_brief.proofs.Laws.{are_brief, same_alike, same_brief}
-use Rattle.e3_law_brief.proofs.Standing.{orderly_append}
+use Rattle.e3_laws.proofs.brief.Following.{brief_orderly}
+use Rattle.e3_laws.proofs.brief.Going.{orderly_on, read_on}
+use Rattle.e3_laws.proofs.brief.Laws.{are_brief, same_alike, same_brief}
+use Rattle.e3_laws.proofs.brief.Standing.{orderly_append}
 use Rattle.e3_site_log.specs.Bodies.{Hold, joined}
 use Rattle.e3_site_log.proofs.Frames.{joined_push}
 use Rattle.e3_types.specs.declared.records.Record.{Record}

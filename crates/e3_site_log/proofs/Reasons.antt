@@ -6,7 +6,7 @@ use Rattle.std.proofs.lemmas.Bool.{le-ltb, lt-ltb, ltb-false, ltb-true}
 use Rattle.e3_disk.specs.Meaning.{Meaning}
 use Rattle.e3_disk.specs.Meters.{HasFailed, Keeps, LAST, Meters, raised}
 use Rattle.e3_world.specs.Brief.{brief}
-use Rattle.e3_law_brief.proofs.Laws.{are_some}
+use Rattle.e3_laws.proofs.brief.Laws.{are_some}
 use Rattle.e3_log.specs.Frames.{frames}
 use Rattle.e3_log.specs.Fronts.{bodies_in as handed_out}
 use Rattle.e3_log.specs.Regions.{limit, other, start}

@@ -18,10 +18,10 @@ use Rattle.e3_world.specs.Messages.{on_message}
 use Rattle.e3_world.specs.Rounds.{count_ack}
 use Rattle.e3_world.specs.Sound.{txn_in}
 use Rattle.e3_world.specs.Steps.{handled, on_input, settle, step_at}
-use Rattle.e3_law_steps.proofs.Adding.{Allows, Casts, Preserves}
-use Rattle.e3_law_steps.proofs.Each.{each-of}
-use Rattle.e3_law_steps.proofs.Rules.{Concludes, Hears, Joins, keep_message}
-use Rattle.e3_law_steps.proofs.Whatever.{AnySent, AnyTold}
+use Rattle.e3_laws.proofs.steps.Adding.{Allows, Casts, Preserves}
+use Rattle.e3_laws.proofs.steps.Each.{each-of}
+use Rattle.e3_laws.proofs.steps.Rules.{Concludes, Hears, Joins, keep_message}
+use Rattle.e3_laws.proofs.steps.Whatever.{AnySent, AnyTold}
 use Rattle.e3_step.specs.SoFar.{IsFrontOf, IsSoFar}
 
 -- every record

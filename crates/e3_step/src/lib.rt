@@ -1,5 +1,5 @@
 //! The rules by which a site makes a step, over what they read of its past: `step_at` gives the step of the definitions
-//! at any `Past`, whether its readings are computed anew each time or kept in tables.
+//! at any `Past`, whether its readings are computed anew each time or kept in tables. In `plain` they are computed anew.
 #![tactic(auto)]
 
 mod attempt_rules;
@@ -9,6 +9,7 @@ mod making;
 mod messages;
 mod operation_rules;
 mod past;
+pub mod plain;
 mod steps;
 mod vote_rules;
 

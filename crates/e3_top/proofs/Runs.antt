@@ -9,12 +9,12 @@ use Rattle.e3_top.specs.declared.preparing.Telling.{Telling}
 use Rattle.e3_top.specs.declared.preparing.Telling.TheVariants.{Report, Summary}
 use Rattle.std.proofs.lemmas.Bool.{leb-true}
 use Rattle.e3_disk.specs.Meaning.{Meaning}
-use Rattle.e3_law_agreement.proofs.Histories.{given_agrees, given_voted}
-use Rattle.e3_law_agreement.proofs.Standing.{given_stands}
+use Rattle.e3_laws.proofs.agreement.Histories.{given_agrees, given_voted}
+use Rattle.e3_laws.proofs.agreement.Standing.{given_stands}
 use Rattle.e3_fleet.specs.Over.{AreOver}
-use Rattle.e3_law_rounds.specs.Commits.{CommitsEnd}
-use Rattle.e3_law_rounds.specs.Rounds.{RoundsEnd}
-use Rattle.e3_law_serial.specs.Claims.{LegalSerial}
+use Rattle.e3_laws.specs.rounds.Commits.{CommitsEnd}
+use Rattle.e3_laws.specs.rounds.Rounds.{RoundsEnd}
+use Rattle.e3_laws.specs.serial.Claims.{LegalSerial}
 use Rattle.e3_gen.specs.Generated.{generated, generated_scenario}
 use Rattle.e3_report.specs.Report.{report_of}
 use Rattle.e3_report.specs.Summary.{summary_of}

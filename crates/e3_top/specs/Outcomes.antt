@@ -5,8 +5,8 @@ use Rattle.e3_check.specs.Claims.{IsVerdict}
 use Rattle.e3_disk.specs.Meaning.{Meaning}
 use Rattle.e3_fleet.specs.Over.{AreBlank, AreOver}
 use Rattle.e3_gen.specs.Generated.{generated, generated_scenario}
-use Rattle.e3_law_rounds.specs.Commits.{CommitRoundsEnd}
-use Rattle.e3_law_rounds.specs.Rounds.{RoundsAreBounded}
+use Rattle.e3_laws.specs.rounds.Commits.{CommitRoundsEnd}
+use Rattle.e3_laws.specs.rounds.Rounds.{RoundsAreBounded}
 use Rattle.e3_report.specs.Report.{report_of}
 use Rattle.e3_report.specs.Summary.{summary_of}
 use Rattle.e3_play.specs.Delivered.{IsFull, IsOwed}

@@ -18,17 +18,17 @@ use Rattle.e3_types.specs.declared.transactions.Op.{Op}
 use Rattle.e3_types.specs.declared.transactions.Op.TheVariants.{Read, Write}
 use Rattle.e3_types.specs.declared.transactions.Row.{Row}
 use Rattle.e3_types.specs.declared.transactions.Txn.{Txn}
-use Rattle.e3_lines.specs.Events.{told_text}
-use Rattle.e3_lines.specs.Records.{row_line, birth_row_line, birth_lines, read_line, write_line, op_line, vote_lines, inc_line, join_line, attempt_line, decision_line, record_lines}
-use Rattle.e3_lines.specs.Texts.{line_end, commas, txn_text, dir_text}
-use Rattle.e3_lines.specs.Entries.{input_line, marked_record, packet_line as packet_text, told_mark_line}
-use Rattle.e3_lines.specs.Inputs.{input_text}
-use Rattle.e3_lines.specs.Messages.{message_text}
+use Rattle.e3_report.specs.lines.Events.{told_text}
+use Rattle.e3_report.specs.lines.Records.{row_line, birth_row_line, birth_lines, read_line, write_line, op_line, vote_lines, inc_line, join_line, attempt_line, decision_line, record_lines}
+use Rattle.e3_report.specs.lines.Texts.{line_end, commas, txn_text, dir_text}
+use Rattle.e3_report.specs.lines.Entries.{input_line, marked_record, packet_line as packet_text, told_mark_line}
+use Rattle.e3_report.specs.lines.Inputs.{input_text}
+use Rattle.e3_report.specs.lines.Messages.{message_text}
 use Rattle.e3_trace.specs.declared.drafts.Draft.{Draft}
 use Rattle.e3_trace.specs.declared.drafts.Growing.{Growing}
 use Rattle.e3_trace.specs.declared.drafts.Growing.TheVariants as growing
 use Rattle.e3_trace.specs.Cuts.{Form, made_of, pair_of}
-use Rattle.e3_lines.specs.Marks.{space, feed}
+use Rattle.e3_report.specs.lines.Marks.{space, feed}
 use Rattle.e3_trace.specs.Drafts.{grown, records_of, ops_due, with_input, takes_records, growing_with, with_record, row_from, row_of, with_row, read_from, write_from, vote_op_by, vote_op_of, with_op, birth_of, votes_of, record_by, first_by, first_of, with_record_line, packet_from, packet_of, takes_packets, with_packet, with_told, takes_told, packet_line, told_line, line_behind}
 use Rattle.e3_trace.specs.Fields.{Known, u32_of, u64_of, name_of, value_of, numbers_of, dir_of, txn_of, known_sent, known_told}
 use Rattle.e3_trace.specs.Inputs.{input_of}
@@ -39,7 +39,7 @@ use Rattle.e3_trace.specs.Trace.{next_line, line_by, marked_line}
 use Rattle.e3_trace.proofs.Chains.{two, three, two_again, three_again}
 use Rattle.e3_trace.proofs.Going.{Goes, goes_none, goes_then, goes_line, cond_false, cond_true, reading_at, not_over, next_by}
 use Rattle.e3_trace.proofs.Lists.{numbers_again, commas_lack}
-use Rattle.e3_lines.proofs.Names.{name_of-name}
+use Rattle.e3_report.proofs.lines.Names.{name_of-name}
 use Rattle.e3_trace.proofs.Numbers.{short_again, long_again}
 use Rattle.e3_trace.proofs.OneLine.{InLine, and_short, and_text, short_in, long_in, txn_in, input_in, message_in, told_in}
 use Rattle.e3_trace.proofs.Sentences.{made, input_again, message_again, told_again, short_word, long_word, txn_word}

@@ -2,7 +2,7 @@
 use Rattle.std.proofs.Common.{◌≡◌, ℕ, true, List, ◌∷◌, ◌++◌, Some, ap, sym, ◌∙◌, append_assoc}
 use Rattle.std.specs.Prelude.{codes}
 use Rattle.e3_trace.specs.Cuts.{Form, pair_of}
-use Rattle.e3_lines.specs.Marks.{space}
+use Rattle.e3_report.specs.lines.Marks.{space}
 use Rattle.e3_trace.specs.Tellable.{lacks}
 use Rattle.e3_trace.proofs.Cutting.{pair_again, lacks_join}
 use Rattle.e3_trace.proofs.Words.{joined}

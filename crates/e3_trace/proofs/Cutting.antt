@@ -5,7 +5,7 @@ use Rattle.std.specs.List.{list_all}
 use Rattle.std.proofs.Common.{eqb-true}
 use Rattle.std.proofs.lemmas.Bool.{and_parts}
 use Rattle.e3_trace.specs.Cuts.{cut, Form, made_of, pair_of}
-use Rattle.e3_lines.specs.Marks.{in_front, pieces}
+use Rattle.e3_report.specs.lines.Marks.{in_front, pieces}
 use Rattle.e3_trace.specs.Tellable.{lacks}
 use Rattle.e3_trace.proofs.Places.{Parts, longer}
 

@@ -8,14 +8,14 @@ use Rattle.e3_types.specs.declared.entries.Act.TheVariants as act
 use Rattle.e3_types.specs.declared.entries.Input.{Input}
 use Rattle.e3_types.specs.declared.entries.Why.{Why}
 use Rattle.e3_types.specs.declared.entries.Why.TheVariants.{Fault, Full}
-use Rattle.e3_lines.specs.Texts.{parts_text, kept_text}
-use Rattle.e3_lines.specs.Events.{why_text}
-use Rattle.e3_lines.specs.Inputs.{input_text}
-use Rattle.e3_lines.specs.Entries.{parts_form, step_form, fall_form, rise_form, failed_rise_form, form_text}
+use Rattle.e3_report.specs.lines.Texts.{parts_text, kept_text}
+use Rattle.e3_report.specs.lines.Events.{why_text}
+use Rattle.e3_report.specs.lines.Inputs.{input_text}
+use Rattle.e3_report.specs.lines.Entries.{parts_form, step_form, fall_form, rise_form, failed_rise_form, form_text}
 use Rattle.e3_trace.specs.declared.drafts.Draft.{Draft}
 use Rattle.e3_trace.specs.declared.drafts.Head.TheVariants as head
 use Rattle.e3_trace.specs.Cuts.{Form, made_of, pair_of, behind}
-use Rattle.e3_lines.specs.Marks.{space}
+use Rattle.e3_report.specs.lines.Marks.{space}
 use Rattle.e3_trace.specs.Drafts.{draft_of}
 use Rattle.e3_trace.specs.Entries.{full_from, full_and, why_and, why_of, kept_of, rise_of, kept_why_of, failed_rise_of, fall_of, whole_of, act_by, draft_by, form_of}
 use Rattle.e3_trace.specs.Events.{of_of}

@@ -3,7 +3,7 @@ use Rattle.std.proofs.Common.{◌≡◌, ◌==◌, ◌+◌, ◌-◌, ◌≤◌, 
 use Rattle.std.specs.Prelude.{bytes_eq, codes}
 use Rattle.std.proofs.lemmas.Option.{same_Some}
 use Rattle.e3_trace.specs.Cuts.{cut}
-use Rattle.e3_lines.specs.Marks.{feed, in_front, pieces}
+use Rattle.e3_report.specs.lines.Marks.{feed, in_front, pieces}
 use Rattle.e3_trace.specs.Trace.{behind_mark, front_of}
 use Rattle.e3_trace.proofs.Going.{same_bytes}
 use Rattle.e3_trace.proofs.Places.{pieces_by, pieces_cut}

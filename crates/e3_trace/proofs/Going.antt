@@ -5,11 +5,11 @@ use Rattle.std.proofs.Common.{eqb-true}
 use Rattle.std.proofs.lemmas.Bool.{and_parts}
 use Rattle.std.proofs.lemmas.Bool.Decides.{nat_tests}
 use Rattle.e3_types.specs.declared.entries.Entry.{Entry}
-use Rattle.e3_lines.specs.Texts.{line_end}
+use Rattle.e3_report.specs.lines.Texts.{line_end}
 use Rattle.e3_trace.specs.declared.drafts.Draft.{Draft}
 use Rattle.e3_trace.specs.declared.faults.TraceFault.{TraceFault}
 use Rattle.e3_trace.specs.declared.faults.TraceFault.TheVariants as fault
-use Rattle.e3_lines.specs.Marks.{space, feed, in_front, pieces}
+use Rattle.e3_report.specs.lines.Marks.{space, feed, in_front, pieces}
 use Rattle.e3_trace.specs.Fields.{Known}
 use Rattle.e3_trace.specs.Trace.{Reading, next_line, line_by, is_over, one_on, ended, lines_read}
 use Rattle.e3_trace.specs.Tellable.{lacks}

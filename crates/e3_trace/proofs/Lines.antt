@@ -6,7 +6,7 @@ use Rattle.e3_types.specs.declared.entries.Entry.{Entry}
 use Rattle.e3_trace.specs.declared.faults.TraceFault.{TraceFault}
 use Rattle.e3_trace.specs.declared.faults.TraceFault.TheVariants as fault
 use Rattle.e3_trace.specs.Cuts.{cut}
-use Rattle.e3_lines.specs.Marks.{feed, in_front, pieces}
+use Rattle.e3_report.specs.lines.Marks.{feed, in_front, pieces}
 use Rattle.e3_trace.specs.Trace.{Reading, next_line, one_on, closed, ended, is_left, lines_read, behind_mark}
 use Rattle.e3_trace.proofs.Places.{pieces_by, pieces_cut, pieces_none, pieces_some}
 

@@ -7,8 +7,8 @@ use Rattle.std.proofs.lemmas.Bool.{and_parts}
 use Rattle.std.proofs.lemmas.Bool.Decides.{nat_tests}
 use Rattle.std.proofs.lemmas.List.{append-nil}
 use Rattle.e3_types.specs.Sets.{ascends, is_set}
-use Rattle.e3_lines.specs.Texts.{commas, after_comma, sites_text, after_bar, parts_text}
-use Rattle.e3_lines.specs.Marks.{comma, bar, feed, pieces}
+use Rattle.e3_report.specs.lines.Texts.{commas, after_comma, sites_text, after_bar, parts_text}
+use Rattle.e3_report.specs.lines.Marks.{comma, bar, feed, pieces}
 use Rattle.e3_trace.specs.Fields.{is_digit, u32_of, numbers_from, numbers_of, sites_of, parts_from, parts_of}
 use Rattle.e3_trace.specs.Tellable.{IsShort, lacks, is_some_set, AreNumbers, AreParts}
 use Rattle.e3_trace.proofs.Cutting.{pieces_join, pieces_whole, lacks_join}

@@ -21,11 +21,11 @@ use Rattle.e3_types.specs.declared.transactions.Op.TheVariants.{Read, Write}
 use Rattle.e3_types.specs.declared.transactions.Txn.{Txn}
 use Rattle.e3_types.specs.declared.verdicts.Verdict.{Verdict}
 use Rattle.e3_types.specs.declared.verdicts.Verdict.TheVariants as verdict
-use Rattle.e3_lines.specs.Texts.{sites_text, txn_text, key_text, dir_text, state_text, kept_text}
-use Rattle.e3_lines.specs.Events.{answer_text, ended_text, doom_text, refusal_text, block_text, verdict_text, op_text, election_text, began_text, died_text, refused_text, kept_state_text, told_of as told_words, of_txn, told_text, why_text}
-use Rattle.e3_lines.specs.Inputs.{operation_text, begin_input, do_input, elect_input, input_text}
-use Rattle.e3_lines.specs.Messages.{txn_and_number, txn_and_call, txn_and_attempt, do_message, done_message, died_message, last_message, report_message, votereq_message, yes_text, vote_message, decide_message, message_text}
-use Rattle.e3_lines.specs.Marks.{feed}
+use Rattle.e3_report.specs.lines.Texts.{sites_text, txn_text, key_text, dir_text, state_text, kept_text}
+use Rattle.e3_report.specs.lines.Events.{answer_text, ended_text, doom_text, refusal_text, block_text, verdict_text, op_text, election_text, began_text, died_text, refused_text, kept_state_text, told_of as told_words, of_txn, told_text, why_text}
+use Rattle.e3_report.specs.lines.Inputs.{operation_text, begin_input, do_input, elect_input, input_text}
+use Rattle.e3_report.specs.lines.Messages.{txn_and_number, txn_and_call, txn_and_attempt, do_message, done_message, died_message, last_message, report_message, votereq_message, yes_text, vote_message, decide_message, message_text}
+use Rattle.e3_report.specs.lines.Marks.{feed}
 use Rattle.e3_trace.specs.Fields.{Known}
 use Rattle.e3_trace.specs.Tellable.{IsShort, IsLong, lacks, IsKey, HasNumbers, IsOp, IsAnswer, InputTells, MessageTells, RefusalTells, IsVerdict, EventTells, IsWhy}
 use Rattle.e3_trace.proofs.Cutting.{lacks_join}

@@ -4,7 +4,7 @@ use Rattle.std.specs.List.{position_or_len}
 use Rattle.std.proofs.Common.{cond, not, nat_lt, arith, ◌≡◌, ◌==◌, ◌+◌, ℕ, suc, Bool, true, false, List, [], ◌∷◌, length, take, drop, Option, Some, None, refl, ap, ◌∙◌}
 use Rattle.std.specs.Prelude.{option_map, position}
 use Rattle.e3_trace.specs.Cuts.{cut}
-use Rattle.e3_lines.specs.Marks.{in_front, pieces}
+use Rattle.e3_report.specs.lines.Marks.{in_front, pieces}
 
 -- two parts of a text
 abbrev pub Parts : Type 0

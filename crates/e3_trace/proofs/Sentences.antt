@@ -18,12 +18,12 @@ use Rattle.e3_types.specs.declared.transactions.State.{State}
 use Rattle.e3_types.specs.declared.transactions.Txn.{Txn}
 use Rattle.e3_types.specs.declared.verdicts.Verdict.{Verdict}
 use Rattle.e3_types.specs.declared.verdicts.Verdict.TheVariants as verdict
-use Rattle.e3_lines.specs.Texts.{sites_text, txn_text, dir_text, state_text}
-use Rattle.e3_lines.specs.Events.{answer_text, ended_text, doom_text, refusal_text, block_text, verdict_text, op_text, election_text, began_text, died_text, refused_text, kept_state_text, told_of as told_words, of_txn, told_text}
-use Rattle.e3_lines.specs.Inputs.{operation_text, begin_input, do_input, elect_input, input_text}
-use Rattle.e3_lines.specs.Messages.{txn_and_number, txn_and_call, txn_and_attempt, do_message, done_message, died_message, last_message, report_message, votereq_message, yes_text, vote_message, decide_message, message_text}
+use Rattle.e3_report.specs.lines.Texts.{sites_text, txn_text, dir_text, state_text}
+use Rattle.e3_report.specs.lines.Events.{answer_text, ended_text, doom_text, refusal_text, block_text, verdict_text, op_text, election_text, began_text, died_text, refused_text, kept_state_text, told_of as told_words, of_txn, told_text}
+use Rattle.e3_report.specs.lines.Inputs.{operation_text, begin_input, do_input, elect_input, input_text}
+use Rattle.e3_report.specs.lines.Messages.{txn_and_number, txn_and_call, txn_and_attempt, do_message, done_message, died_message, last_message, report_message, votereq_message, yes_text, vote_message, decide_message, message_text}
 use Rattle.e3_trace.specs.Cuts.{pair_of, behind}
-use Rattle.e3_lines.specs.Marks.{space}
+use Rattle.e3_report.specs.lines.Marks.{space}
 use Rattle.e3_trace.specs.Events.{of_of, block_from, verdict_of, doom_of, doomed_from, refusal_by, refusal_of, event_by, event_of, began_of, told_by, told_of}
 use Rattle.e3_trace.specs.Fields.{Known, u32_of, u64_of, sites_of, dir_of, state_of, op_of, answer_of, txn_from, named, txn_of, packet_at, sent_of}
 use Rattle.e3_trace.specs.Inputs.{do_from, elect_from, input_by, input_of}

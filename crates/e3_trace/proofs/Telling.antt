@@ -12,12 +12,12 @@ use Rattle.e3_types.specs.declared.entries.Told.{Told}
 use Rattle.e3_types.specs.declared.entries.Why.{Why}
 use Rattle.e3_types.specs.declared.messages.Packet.{Packet}
 use Rattle.e3_types.specs.declared.records.Record.{Record}
-use Rattle.e3_lines.specs.Texts.{line_end}
-use Rattle.e3_lines.specs.Entries.{input_line, marked_record, packet_line as packet_text, told_mark_line, form_text, lines_behind, entry_trace, trace_of}
+use Rattle.e3_report.specs.lines.Texts.{line_end}
+use Rattle.e3_report.specs.lines.Entries.{input_line, marked_record, packet_line as packet_text, told_mark_line, form_text, lines_behind, entry_trace, trace_of}
 use Rattle.e3_trace.specs.declared.drafts.Draft.{Draft}
 use Rattle.e3_trace.specs.declared.drafts.Head.TheVariants as head
 use Rattle.e3_trace.specs.declared.faults.TraceFault.TheVariants as fault
-use Rattle.e3_lines.specs.Marks.{space, feed, pieces}
+use Rattle.e3_report.specs.lines.Marks.{space, feed, pieces}
 use Rattle.e3_trace.specs.Drafts.{ops_due, is_complete, act_of, entry_from, draft_of}
 use Rattle.e3_trace.specs.Entries.{whole_of}
 use Rattle.e3_trace.specs.Fields.{Known, is_digit}

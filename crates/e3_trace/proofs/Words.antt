@@ -14,15 +14,15 @@ use Rattle.e3_types.specs.declared.transactions.State.{State}
 use Rattle.e3_types.specs.declared.transactions.State.TheVariants.{Q, W, Pc, Pa, C, A}
 use Rattle.e3_types.specs.declared.transactions.Txn.{Txn}
 use Rattle.e3_types.specs.Text.{IsName, IsValue, is_letter}
-use Rattle.e3_lines.specs.Texts.{txn_text, key_text, dir_text, state_text}
-use Rattle.e3_lines.specs.Events.{answer_text}
-use Rattle.e3_lines.specs.Inputs.{operation_text}
+use Rattle.e3_report.specs.lines.Texts.{txn_text, key_text, dir_text, state_text}
+use Rattle.e3_report.specs.lines.Events.{answer_text}
+use Rattle.e3_report.specs.lines.Inputs.{operation_text}
 use Rattle.e3_trace.specs.Cuts.{made_of, pair_of}
-use Rattle.e3_lines.specs.Marks.{space, point, feed}
+use Rattle.e3_report.specs.lines.Marks.{space, point, feed}
 use Rattle.e3_trace.specs.Fields.{Known, is_digit, u32_of, name_of, value_of, key_from, key_of, dir_of, state_of, write_from, op_by, op_of, answer_of, txn_name_of, txn_of}
 use Rattle.e3_trace.specs.Tellable.{IsShort, IsLong, lacks, IsKey, HasNumbers, IsBegun, IsOp, IsAnswer}
 use Rattle.e3_trace.proofs.Cutting.{pair_again, made_again, lacks_join, lacks_by}
-use Rattle.e3_lines.proofs.Names.{name_of-name}
+use Rattle.e3_report.proofs.lines.Names.{name_of-name}
 use Rattle.e3_trace.proofs.Numbers.{short_again, number_lacks}
 
 -- a short number is a long one

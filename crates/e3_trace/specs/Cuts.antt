@@ -1,6 +1,6 @@
 -- A text, cut at the bytes of one kind; and what reads a whole text.
 use Rattle.std.specs.Prelude.{ℕ, ◌==◌, ◌≡◌, Bool, List, [], ◌∷◌, bytes_eq, Option, Some, None, option_map, option_and_then, is_some, if◌then◌else◌, Result, Ok, Err}
-use Rattle.e3_lines.specs.Marks.{space}
+use Rattle.e3_report.specs.lines.Marks.{space}
 use Rattle.e3_trace.specs.declared.faults.Fault.{Fault}
 use Rattle.e3_trace.specs.declared.faults.Fault.TheVariants.{Bad, NoMemory}
 

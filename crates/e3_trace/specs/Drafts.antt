@@ -18,7 +18,7 @@ use Rattle.e3_trace.specs.declared.drafts.Growing.TheVariants as growing
 use Rattle.e3_trace.specs.declared.drafts.Head.{Head}
 use Rattle.e3_trace.specs.declared.drafts.Head.TheVariants as head
 use Rattle.e3_trace.specs.Cuts.{cut, Form, made_of, pair_of}
-use Rattle.e3_lines.specs.Marks.{space}
+use Rattle.e3_report.specs.lines.Marks.{space}
 use Rattle.e3_trace.specs.Events.{told_of}
 use Rattle.e3_trace.specs.Fields.{Known, known_sent, known_told, u32_of, u64_of, name_of, value_of, numbers_of, dir_of, txn_of}
 use Rattle.e3_trace.specs.Inputs.{input_of}

@@ -7,7 +7,7 @@ use Rattle.e3_types.specs.declared.entries.Why.TheVariants.{Fault, Full}
 use Rattle.e3_trace.specs.declared.drafts.Draft.{Draft}
 use Rattle.e3_trace.specs.declared.drafts.Head.TheVariants as head
 use Rattle.e3_trace.specs.Cuts.{cut, Form, made_of, pair_of, behind, begins}
-use Rattle.e3_lines.specs.Marks.{space}
+use Rattle.e3_report.specs.lines.Marks.{space}
 use Rattle.e3_trace.specs.Drafts.{draft_of}
 use Rattle.e3_trace.specs.Events.{of_of}
 use Rattle.e3_trace.specs.Fields.{Known, u32_of, u64_of, parts_of}

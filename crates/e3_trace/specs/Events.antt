@@ -9,7 +9,7 @@ use Rattle.e3_types.specs.declared.transactions.Txn.{Txn}
 use Rattle.e3_types.specs.declared.verdicts.Verdict.{Verdict}
 use Rattle.e3_types.specs.declared.verdicts.Verdict.TheVariants as verdict
 use Rattle.e3_trace.specs.Cuts.{cut, Form, made_of, pair_of, behind, begins}
-use Rattle.e3_lines.specs.Marks.{space}
+use Rattle.e3_report.specs.lines.Marks.{space}
 use Rattle.e3_trace.specs.Fields.{Known, TxnName, u32_of, u64_of, sites_of, dir_of, state_of, answer_of, txn_name_of, txn_from, named, txn_of}
 
 -- two numbers with `of` between them

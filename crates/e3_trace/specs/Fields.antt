@@ -18,9 +18,9 @@ use Rattle.e3_types.specs.declared.transactions.State.{State}
 use Rattle.e3_types.specs.declared.transactions.State.TheVariants.{Q, W, Pc, Pa, C, A}
 use Rattle.e3_types.specs.declared.transactions.Txn.{Txn}
 use Rattle.e3_types.specs.Sets.{is_set}
-pub use Rattle.e3_lines.specs.Spelled.{is_digit, digits_from, name_of, value_of}
+pub use Rattle.e3_report.specs.lines.Spelled.{is_digit, digits_from, name_of, value_of}
 use Rattle.e3_trace.specs.Cuts.{cut, Form, made_of, pair_of, behind}
-use Rattle.e3_lines.specs.Marks.{space, point, comma, bar, pieces}
+use Rattle.e3_report.specs.lines.Marks.{space, point, comma, bar, pieces}
 
 -- a number from 0 to `most`, in digits without leading zeros
 unfoldable pub number_of : ℕ → Form ℕ

@@ -5,7 +5,7 @@ use Rattle.e3_types.specs.declared.entries.Input.TheVariants as input
 use Rattle.e3_types.specs.declared.transactions.Op.{Op}
 use Rattle.e3_types.specs.declared.transactions.Txn.{Txn}
 use Rattle.e3_trace.specs.Cuts.{cut, Form, made_of, pair_of}
-use Rattle.e3_lines.specs.Marks.{space}
+use Rattle.e3_report.specs.lines.Marks.{space}
 use Rattle.e3_trace.specs.Fields.{Known, sites_of, op_of, txn_of, sent_of}
 
 -- the call of an operation

@@ -6,7 +6,7 @@ use Rattle.e3_types.specs.declared.transactions.Call.{Call}
 use Rattle.e3_types.specs.declared.transactions.Dir.{Dir}
 use Rattle.e3_types.specs.declared.transactions.Txn.{Txn}
 use Rattle.e3_trace.specs.Cuts.{cut, Form, made_of, pair_of}
-use Rattle.e3_lines.specs.Marks.{space}
+use Rattle.e3_report.specs.lines.Marks.{space}
 use Rattle.e3_trace.specs.Fields.{Known, u32_of, dir_of, state_of, op_of, answer_of, txn_of}
 
 -- a transaction and a number

@@ -29,9 +29,9 @@ use Rattle.e3_types.specs.declared.verdicts.Verdict.{Verdict}
 use Rattle.e3_types.specs.declared.verdicts.Verdict.TheVariants as verdict
 use Rattle.e3_types.specs.Sets.{is_set}
 use Rattle.e3_types.specs.Text.{IsName, IsValue}
-use Rattle.e3_lines.specs.Texts.{line_end}
-use Rattle.e3_lines.specs.Entries.{trace_of}
-use Rattle.e3_lines.specs.Marks.{feed}
+use Rattle.e3_report.specs.lines.Texts.{line_end}
+use Rattle.e3_report.specs.lines.Entries.{trace_of}
+use Rattle.e3_report.specs.lines.Marks.{feed}
 use Rattle.e3_trace.specs.Fields.{Known, named, packet_at, known_sent, known_told}
 use Rattle.e3_trace.specs.Trace.{history_of}
 

@@ -5,7 +5,7 @@ use Rattle.e3_trace.specs.declared.drafts.Draft.{Draft}
 use Rattle.e3_trace.specs.declared.faults.TraceFault.{TraceFault}
 use Rattle.e3_trace.specs.declared.faults.TraceFault.TheVariants as fault
 use Rattle.e3_trace.specs.Cuts.{cut, Form}
-use Rattle.e3_lines.specs.Marks.{space, feed, pieces}
+use Rattle.e3_report.specs.lines.Marks.{space, feed, pieces}
 use Rattle.e3_trace.specs.Drafts.{entry_from, line_behind}
 use Rattle.e3_trace.specs.Entries.{form_of}
 use Rattle.e3_trace.specs.Fields.{Known, u32_of}

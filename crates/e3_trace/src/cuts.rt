@@ -3,7 +3,7 @@ ghost use Rattle.std.specs.Prelude.{◌≡◌, ◌<◌, length, IfOk, IfErr};
 ghost use Rattle.e3_trace.specs.Cuts.{cut, rest_behind, Shows};
 
 use crate::faults::Fault;
-use e3_lines::{is_text, place_of};
+use e3_report::lines::{is_text, place_of};
 
 /// The byte between two words.
 pub(crate) const SPACE: u8 = b' ';

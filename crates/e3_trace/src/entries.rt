@@ -1,7 +1,7 @@
 // The first lines of entries, read behind what earlier lines tell.
 ghost use Rattle.std.specs.Prelude.{◌≡◌, [], IfErr, IfOk, codes};
 ghost use Rattle.e3_trace.specs.Cuts.{pair_of, behind, Gives};
-ghost use Rattle.e3_lines.specs.Marks.{space};
+ghost use Rattle.e3_report.specs.lines.Marks.{space};
 ghost use Rattle.e3_trace.specs.Entries.{full_and, why_and, why_of, kept_of, rise_of, kept_why_of, failed_rise_of, act_by, draft_by, form_of};
 ghost use Rattle.e3_trace.specs.Fields.{u64_of};
 ghost use Rattle.e3_trace.specs.Past.{knowing, sends};
@@ -15,7 +15,7 @@ use crate::fields::{Field, parts};
 use crate::inputs::input;
 use crate::known::Known;
 use crate::past::Past;
-use e3_lines::is_text;
+use e3_report::lines::is_text;
 use e3_types::{Act, Why};
 use std::alloc::Global;
 

@@ -7,7 +7,7 @@ use crate::cuts::{SPACE, behind, cut};
 use crate::faults::Fault;
 use crate::fields::{Field, TxnName, sites, txn_from, txn_name};
 use crate::known::Known;
-use e3_lines::{is_text, one_of};
+use e3_report::lines::{is_text, one_of};
 use e3_types::{Answer, Dir, Refusal, State, Told, Txn, Verdict};
 use std::alloc::Global;
 

@@ -1,12 +1,12 @@
 // The fields of a trace's lines. Only lists take memory.
 ghost use Rattle.std.specs.Prelude.{◌≡◌, ◌≤◌, ℕ, [], List as Items, Option, IfErr, IfSome};
 ghost use Rattle.e3_trace.specs.Cuts.{pair_of, Gives};
-ghost use Rattle.e3_lines.specs.Marks.{space, pieces};
+ghost use Rattle.e3_report.specs.lines.Marks.{space, pieces};
 ghost use Rattle.e3_trace.specs.Fields.{number_of, u32_of, u64_of, name_of, value_of, list_from, numbers_of, sites_of, parts_of, key_of, dir_of, state_of, op_of, answer_of, txn_name_of, txn_from};
 
 use crate::cuts::{BAR, COMMA, POINT, SPACE, behind, cut};
 use crate::faults::Fault;
-use e3_lines::{is_text, name_of, number_of_digits, one_of, value_of};
+use e3_report::lines::{is_text, name_of, number_of_digits, one_of, value_of};
 use e3_types::{Answer, Dir, Key, List, Name, Op, SiteSet, State, Txn, Val};
 use std::alloc::Global;
 

@@ -1,6 +1,6 @@
 // The inputs of sites, read behind what earlier lines tell.
 ghost use Rattle.e3_trace.specs.Cuts.{made_of, pair_of, Gives};
-ghost use Rattle.e3_lines.specs.Marks.{space};
+ghost use Rattle.e3_report.specs.lines.Marks.{space};
 ghost use Rattle.e3_trace.specs.Fields.{sites_of, txn_of};
 ghost use Rattle.e3_trace.specs.Inputs.{elect_from, input_by, input_of};
 ghost use Rattle.e3_trace.specs.Past.{knowing};
@@ -11,7 +11,7 @@ use crate::faults::Fault;
 use crate::fields::sites;
 use crate::known::Known;
 use crate::past::Past;
-use e3_lines::is_text;
+use e3_report::lines::is_text;
 use e3_types::{Input, Op};
 use std::alloc::Global;
 

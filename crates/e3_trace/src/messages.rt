@@ -1,6 +1,6 @@
 // The messages of sites, read behind what earlier lines tell. Reading one takes no memory of its own.
 ghost use Rattle.e3_trace.specs.Cuts.{pair_of, Gives};
-ghost use Rattle.e3_lines.specs.Marks.{space};
+ghost use Rattle.e3_report.specs.lines.Marks.{space};
 ghost use Rattle.e3_trace.specs.Fields.{u32_of, txn_of};
 ghost use Rattle.e3_trace.specs.Messages.{yes_of, died_of, vote_of, deciding_by, message_by, message_of};
 
@@ -8,7 +8,7 @@ use crate::cuts::{SPACE, cut};
 use crate::faults::Fault;
 use crate::fields::Field;
 use crate::known::Known;
-use e3_lines::{is_text, one_of};
+use e3_report::lines::{is_text, one_of};
 use e3_types::{Answer, Call, Dir, Message, Op, State, Txn};
 
 fn number_and_txn(known: &Known, text: &[u8]) -> Result<(u32, Txn), Fault>

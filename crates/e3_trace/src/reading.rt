@@ -16,7 +16,7 @@ use crate::known::Known;
 use crate::messages::message;
 use crate::past::Past;
 use crate::records::add_record_line;
-use e3_lines::is_text;
+use e3_report::lines::is_text;
 use e3_types::{NoMemory, Packet};
 use e3_world::History;
 use std::alloc::Global;

@@ -10,7 +10,7 @@ use crate::faults::Fault;
 use crate::fields::{Field, numbers};
 use crate::known::Known;
 use crate::spare::add;
-use e3_lines::is_text;
+use e3_report::lines::is_text;
 use e3_types::{Dir, Key, List, Name, NumOp, Op, Record, Row, Val};
 use std::alloc::Global;
 

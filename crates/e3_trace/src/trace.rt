@@ -1,12 +1,12 @@
 // From the bytes of a trace to its history.
 ghost use Rattle.std.specs.Prelude.{◌≡◌, ◌⊎◌, ◌≤◌, length, Ok, Err, IfOk, IfErr, IfSome, MatchOption, None, Some};
-ghost use Rattle.e3_lines.specs.Marks.{feed, pieces};
+ghost use Rattle.e3_report.specs.lines.Marks.{feed, pieces};
 ghost use Rattle.e3_trace.specs.Trace.{nothing_read, ended, lines_read, behind_mark, front_of, next_line, history_of, Spells, GoesOn};
 
 use crate::cuts::{FEED, cut};
 use crate::faults::{Fault, TraceFault};
 use crate::reading::{MOST_ENTRIES, Reading};
-use e3_lines::is_text;
+use e3_report::lines::is_text;
 use e3_types::Scenario;
 use e3_world::History;
 use std::alloc::Global;

@@ -3,9 +3,9 @@ use Rattle.std.proofs.Common.{◌≡◌, ◌≤◌, true, false, List, [], ◌�
 use Rattle.e3_types.specs.declared.entries.Entry.{Entry}
 use Rattle.e3_types.specs.declared.entries.Input.TheVariants as input
 use Rattle.e3_types.specs.declared.scenarios.Scenario.{Scenario}
-use Rattle.e3_law_local.specs.Others.{Allows, AreOthers}
-use Rattle.e3_law_local.proofs.Laws.{local}
-use Rattle.e3_law_local.proofs.Least.{least_is_pending}
+use Rattle.e3_laws.specs.local.Others.{Allows, AreOthers}
+use Rattle.e3_laws.proofs.local.Laws.{local}
+use Rattle.e3_laws.proofs.local.Least.{least_is_pending}
 use Rattle.e3_world.specs.Items.{inputs_of}
 use Rattle.e3_world.specs.Legal.{IsLegal}
 use Rattle.e3_world.specs.Packets.{outs_of}

@@ -10,8 +10,8 @@ use Rattle.e3_world.specs.Items.{is_up_at}
 use Rattle.e3_world.specs.Legal.{Guard, IsLegal, first_pending}
 use Rattle.e3_world.specs.Packets.{is_calm, lines, pending, step_items}
 use Rattle.e3_world.proofs.Pushes.{legal_push}
-use Rattle.e3_law_local.specs.Least.{IsLeastTo}
-use Rattle.e3_law_local.proofs.Least.{least_is, least_is_pending}
+use Rattle.e3_laws.specs.local.Least.{IsLeastTo}
+use Rattle.e3_laws.proofs.local.Least.{least_is, least_is_pending}
 use Rattle.e3_net.specs.declared.waiting.Waiting.{Waiting}
 use Rattle.e3_net.specs.Stands.{NetStands}
 use Rattle.e3_net.specs.Traffic.{Traffic, packet_to, takes}

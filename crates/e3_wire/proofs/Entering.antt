@@ -11,7 +11,7 @@ use Rattle.e3_world.specs.Items.{inputs_of}
 use Rattle.e3_world.specs.Legal.{IsLegal, numbered}
 use Rattle.e3_world.specs.Packets.{outs_of, sent}
 use Rattle.e3_world.proofs.Pushes.{legal_push}
-use Rattle.e3_law_local.specs.Others.{numbered_on}
+use Rattle.e3_laws.specs.local.Others.{numbered_on}
 use Rattle.e3_net.proofs.Pushing.{numbered_length as numbered_long}
 use Rattle.e3_net.proofs.Taking.{behind_all_rest}
 use Rattle.e3_net.specs.Stands.{NetStands, behind_inputs}

@@ -7,9 +7,9 @@ use Rattle.e3_types.specs.declared.entries.Entry.{Entry}
 use Rattle.e3_types.specs.declared.scenarios.Scenario.{Scenario}
 use Rattle.e3_world.specs.Legal.{Guard, IsLegal, LegalAfter}
 use Rattle.e3_world.specs.Packets.{is_line}
-use Rattle.e3_law_local.specs.Others.{AreOthers}
-use Rattle.e3_law_local.specs.Least.{AreOfSites}
-use Rattle.e3_law_local.proofs.Laws.{legal_behind}
+use Rattle.e3_laws.specs.local.Others.{AreOthers}
+use Rattle.e3_laws.specs.local.Least.{AreOfSites}
+use Rattle.e3_laws.proofs.local.Laws.{legal_behind}
 use Rattle.e3_wire.specs.declared.marks.Mark.{Mark}
 use Rattle.e3_wire.specs.declared.marks.Mark.TheVariants as mark
 use Rattle.e3_wire.specs.Marks.{AreForeign, belongs, entries_of, note_by, note_of, nothing}

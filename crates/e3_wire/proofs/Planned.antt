@@ -3,11 +3,11 @@ use Rattle.std.proofs.Common.{◌≡◌, ◌≤◌, ◌+◌, ℕ, zero, suc, Lis
 use Rattle.e3_types.specs.declared.entries.Act.{Act}
 use Rattle.e3_types.specs.declared.entries.Entry.{Entry}
 use Rattle.e3_types.specs.declared.scenarios.Scenario.{Scenario}
-use Rattle.e3_law_local.specs.Drafts.{MayEnter}
-use Rattle.e3_law_local.specs.Others.{Allows, AreOthers}
-use Rattle.e3_law_local.proofs.Alike.{all_on}
-use Rattle.e3_law_local.proofs.Drafted.{drafts_are_allowed, drafts_stay}
-use Rattle.e3_law_local.proofs.Laws.{legal_behind}
+use Rattle.e3_laws.specs.local.Drafts.{MayEnter}
+use Rattle.e3_laws.specs.local.Others.{Allows, AreOthers}
+use Rattle.e3_laws.proofs.local.Alike.{all_on}
+use Rattle.e3_laws.proofs.local.Drafted.{drafts_are_allowed, drafts_stay}
+use Rattle.e3_laws.proofs.local.Laws.{legal_behind}
 use Rattle.e3_world.specs.Items.{inputs_of}
 use Rattle.e3_world.specs.Legal.{IsLegal}
 use Rattle.e3_world.specs.Packets.{is_calm, lines, outs_of, step_items}

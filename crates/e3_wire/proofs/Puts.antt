@@ -6,7 +6,7 @@ use Rattle.std.proofs.lemmas.List.Elements.{All-nil, All-cons, All-head, All-tai
 use Rattle.e3_turn.specs.Chronicles.{count_of, ExtendsByOwners, IsOwn}
 use Rattle.e3_types.specs.declared.entries.Entry.{Entry}
 use Rattle.e3_types.specs.declared.messages.Packet.{Packet}
-use Rattle.e3_law_local.specs.Others.{numbered_on}
+use Rattle.e3_laws.specs.local.Others.{numbered_on}
 use Rattle.e3_wire.specs.Claims.{DriversMayPut, HasOwner}
 use Rattle.e3_wire.specs.declared.fault.WireFault.{WireFault}
 use Rattle.e3_wire.specs.declared.marks.Mark.{Mark}

@@ -5,8 +5,8 @@ use Rattle.e3_types.specs.declared.entries.Entry.{Entry}
 use Rattle.e3_types.specs.declared.messages.Packet.{Packet}
 use Rattle.e3_types.specs.declared.scenarios.Scenario.{Scenario}
 use Rattle.e3_world.specs.Packets.{pending}
-use Rattle.e3_law_local.specs.Least.{queue_to}
-use Rattle.e3_law_local.proofs.Least.{least_is}
+use Rattle.e3_laws.specs.local.Least.{queue_to}
+use Rattle.e3_laws.proofs.local.Least.{least_is}
 use Rattle.e3_net.specs.declared.waiting.Waiting.{Waiting}
 use Rattle.e3_net.specs.Stands.{waiting_of}
 use Rattle.e3_net.specs.Traffic.{goes_to, queue_in}

@@ -6,7 +6,7 @@ use Rattle.e3_types.specs.declared.entries.Act.{Act}
 use Rattle.e3_types.specs.declared.entries.Act.TheVariants.{Step, Fall, Rise, RiseFall, Miss, Cut, Drop, Parts, Line}
 use Rattle.e3_types.specs.declared.entries.Entry.{Entry}
 use Rattle.e3_types.specs.declared.scenarios.Scenario.{Scenario}
-use Rattle.e3_law_local.specs.Others.{numbered_on}
+use Rattle.e3_laws.specs.local.Others.{numbered_on}
 use Rattle.e3_world.specs.Packets.{sent}
 use Rattle.e3_wire.specs.Claims.{ClaimsAreUsed, EntriesPromiseNothing, GrowthAddsUp, HasOwner}
 use Rattle.e3_wire.specs.declared.marks.Mark.{Mark}

@@ -4,8 +4,8 @@ use Rattle.std.specs.Prelude.{All}
 use Rattle.std.proofs.lemmas.List.Elements.{All-head, All-tail}
 use Rattle.e3_turn.specs.Chronicles.{count_of, ExtendsByOthers, IsForeign}
 use Rattle.e3_types.specs.declared.entries.Entry.{Entry}
-use Rattle.e3_law_local.specs.Others.{Allows, AreOthers}
-use Rattle.e3_law_local.proofs.Laws.{local}
+use Rattle.e3_laws.specs.local.Others.{Allows, AreOthers}
+use Rattle.e3_laws.proofs.local.Laws.{local}
 use Rattle.e3_world.specs.Items.{inputs_of}
 use Rattle.e3_world.specs.Legal.{IsLegal}
 use Rattle.e3_world.specs.Packets.{is_calm, outs_of, present_items}

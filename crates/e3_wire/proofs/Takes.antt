@@ -13,10 +13,10 @@ use Rattle.e3_types.specs.declared.scenarios.Scenario.{Scenario}
 use Rattle.e3_world.specs.Items.{inputs_of}
 use Rattle.e3_world.specs.Legal.{IsLegal}
 use Rattle.e3_world.specs.Packets.{outs_of}
-use Rattle.e3_law_local.specs.Least.{AreOfSites, IsLeastTo}
-use Rattle.e3_law_local.specs.Others.{Allows, AreOthers, AreWaiting, IsWaiting, numbered_on}
-use Rattle.e3_law_local.proofs.Least.{least_is, least_is_pending, least_stays}
-use Rattle.e3_law_local.proofs.Queues.{first_are_next, first_are_waiting, queue_stays}
+use Rattle.e3_laws.specs.local.Least.{AreOfSites, IsLeastTo}
+use Rattle.e3_laws.specs.local.Others.{Allows, AreOthers, AreWaiting, IsWaiting, numbered_on}
+use Rattle.e3_laws.proofs.local.Least.{least_is, least_is_pending, least_stays}
+use Rattle.e3_laws.proofs.local.Queues.{first_are_next, first_are_waiting, queue_stays}
 use Rattle.e3_net.specs.Stands.{AreNext, IsNext, NetStands, behind_inputs}
 use Rattle.e3_net.specs.Traffic.{Traffic, packet_to, queue_in, sends_all}
 use Rattle.e3_net.proofs.Keeping.{fall_keeps, quiet_keeps, stands_waits, step_keeps}

@@ -1,8 +1,8 @@
 -- What a pass may conclude of marks.
 use Rattle.std.specs.Prelude.{◌≡◌, ◌≢◌, ◌≤◌, ◌+◌, ◌++◌, ◌∷◌, [], ℕ, suc, true, false, List, length, All}
-use Rattle.e3_law_local.specs.Drafts.{MayEnter, MayTake}
-use Rattle.e3_law_local.specs.Least.{AreOfSites}
-use Rattle.e3_law_local.specs.Others.{Allows, AreOthers, numbered_on}
+use Rattle.e3_laws.specs.local.Drafts.{MayEnter, MayTake}
+use Rattle.e3_laws.specs.local.Least.{AreOfSites}
+use Rattle.e3_laws.specs.local.Others.{Allows, AreOthers, numbered_on}
 use Rattle.e3_turn.specs.Passes.{GrewByOthers, GrewByOwners, Owns, OwnsAll, PassOf, last_of, seen_by}
 use Rattle.e3_types.specs.declared.entries.Entry.{Entry}
 use Rattle.e3_types.specs.declared.entries.Input.{Input}

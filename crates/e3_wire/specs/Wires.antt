@@ -7,8 +7,8 @@ use Rattle.e3_types.specs.declared.entries.Input.{Input}
 use Rattle.e3_types.specs.declared.entries.Input.TheVariants as input
 use Rattle.e3_types.specs.declared.messages.Packet.{Packet}
 use Rattle.e3_types.specs.declared.scenarios.Scenario.{Scenario}
-use Rattle.e3_law_local.specs.Least.{AreFirstTo, IsLeastTo, queue_to}
-use Rattle.e3_law_local.specs.Others.{Allows}
+use Rattle.e3_laws.specs.local.Least.{AreFirstTo, IsLeastTo, queue_to}
+use Rattle.e3_laws.specs.local.Others.{Allows}
 use Rattle.e3_net.specs.Stands.{NetStands}
 use Rattle.e3_net.specs.Traffic.{Traffic}
 use Rattle.e3_world.specs.Given.{IsGiven}

@@ -1,6 +1,6 @@
 // What is under the lock.
 ghost use Rattle.std.specs.Prelude.{◌≡◌, ◌++◌, [], ◌∷◌, ◌+◌, ◌≤◌, ◌<◌, ◌≢◌, ◌==◌, ◌↔◌, ℕ, List as Items, true, false, nat_le, length, IfOk, OnOk, OnErr, Err, None, find};
-ghost use Rattle.e3_law_local.specs.Others.{numbered_on};
+ghost use Rattle.e3_laws.specs.local.Others.{numbered_on};
 ghost use Rattle.e3_types.specs.declared.entries.Act.TheVariants as act;
 ghost use Rattle.e3_wire.specs.Marks.{entries_of, last_owner, most_of, note_of, places_for, scenario_of, used_of};
 ghost use Rattle.e3_wire.specs.Wires.{EndsInPromise, HasNoPlaceFor, IsDriven, IsDroppedFor, IsInTurn, IsPlayed, MayEnterBehind, first_few, places_left};

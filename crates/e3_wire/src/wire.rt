@@ -1,6 +1,6 @@
 // The wire, in turns.
 ghost use Rattle.std.specs.Prelude.{◌≡◌, ◌<◌, ◌≤◌, ◌++◌, ◌∷◌, ◌↔◌, [], ℕ, List as Items, length, true, IfOk, OnOk, OnErr, Err};
-ghost use Rattle.e3_law_local.specs.Others.{numbered_on};
+ghost use Rattle.e3_laws.specs.local.Others.{numbered_on};
 ghost use Rattle.e3_turn.specs.Chronicles.{down_from};
 ghost use Rattle.e3_turn.specs.Passes.{GrewByOthers, GrewByOwners, HasJoined, HasSplit, HasTurn, IsIdle, Owns, OwnsAll, SameOwners, last_of, owners_of, seen_by};
 ghost use Rattle.e3_types.specs.declared.entries.Act.TheVariants as act;

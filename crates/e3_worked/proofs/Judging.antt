@@ -6,7 +6,7 @@ use Rattle.e3_types.specs.declared.entries.Entry.{Entry}
 use Rattle.e3_types.specs.declared.scenarios.Scenario.{Scenario}
 use Rattle.e3_judge.specs.Checks.{is_whole}
 use Rattle.e3_judge.specs.Claims.{WholeIsWhole}
-use Rattle.e3_law_steps.specs.Trails.{TrailsAreSound}
+use Rattle.e3_laws.specs.steps.Trails.{TrailsAreSound}
 use Rattle.e3_world.specs.Given.{IsGiven, exist, rows_differ, steps_keep}
 use Rattle.e3_world.specs.Packets.{all_sites}
 use Rattle.e3_worked.specs.Worked.{IsWorked, Outcome, outcome_of}

@@ -31,7 +31,7 @@ ghost use Rattle.e3_worked.specs.UpgradeWaits.{upgrade_waits, upgrade_waits_hist
 ghost use Rattle.e3_worked.specs.VoteStopped.{vote_stopped, vote_lost_history, vote_kept_history};
 
 use e3_judge::checks_are_exact;
-use e3_law_steps::trails_are_sound;
+use e3_laws::steps::trails_are_sound;
 use e3_types::Leave;
 
 /// Each worked history is legal and whole, its scenario keeps the rules, its trail is sound, and it comes to the commits and

@@ -1,8 +1,8 @@
 // What laws say of worked histories: recovery rounds, commits and waits.
 ghost use Rattle.std.specs.Prelude.{◌≡◌, ◌++◌, ◌∷◌, None};
-ghost use Rattle.e3_law_rounds.specs.Commits.{CommitRoundsEnd, CommitStands};
-ghost use Rattle.e3_law_rounds.specs.Rounds.{AllStayUp, RoundStands, elect_entry};
-ghost use Rattle.e3_law_serial.specs.Waiters.{WaitsFor};
+ghost use Rattle.e3_laws.specs.rounds.Commits.{CommitRoundsEnd, CommitStands};
+ghost use Rattle.e3_laws.specs.rounds.Rounds.{AllStayUp, RoundStands, elect_entry};
+ghost use Rattle.e3_laws.specs.serial.Waiters.{WaitsFor};
 ghost use Rattle.e3_world.specs.Given.{IsGiven};
 ghost use Rattle.e3_world.specs.Legal.{IsLegal};
 ghost use Rattle.e3_world.specs.Moves.{open_tail};
@@ -16,7 +16,7 @@ ghost use Rattle.e3_worked.specs.OneWrite.{one_write};
 ghost use Rattle.e3_worked.specs.WrongNo.{history_with_a_wrong_no};
 
 use e3_judge::checks_are_exact;
-use e3_law_steps::prefix_is_legal;
+use e3_laws::steps::prefix_is_legal;
 
 /// A commit over two sites in which nothing fails is a step that the law of the commit round speaks of, with as many entries
 /// as that law allows.

@@ -44,7 +44,7 @@ abbrev pub is_partition : Scenario → List (List ℕ) → Bool
 is_partition sc parts =
     list_all (is_group sc) parts && list_all (λ s. count_by (λ part. has_site part s) parts == 1) (all_sites sc)
 
--- an item of the group kind
+-- an item of the group kind: a client's call, an expiry or an election
 abbrev pub is_groupable : Item → Bool
 is_groupable (item.Recover sites) = false
 is_groupable (item.Split parts) = false

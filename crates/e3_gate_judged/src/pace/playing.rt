@@ -1,9 +1,9 @@
 // A scenario that is played by so many threads, and its history judged.
 ghost use Rattle.e3_world.specs.Given.{IsGiven};
 
-use e3_audit::audit;
 use e3_disk::{Drill, MemDisk};
 use e3_fleet::{Played, memory_disks, play_over};
+use e3_judge::audit::audit;
 use e3_log::Log;
 use e3_outside::{Gate, Source, read_up_to};
 use e3_scenario::read_scenario;

@@ -4,11 +4,11 @@ use crate::answers;
 use crate::layers::disks::{faulty, push_content};
 use crate::texts::push_hex;
 use e3_disk::{Disk, Drill, MemDisk};
-use e3_lines::Page;
 use e3_log::{
     AppendFault, Frame, Log, OpenCause, OpenRefused, calls_are_whole_or_not_at_all,
     regions_have_one_reading,
 };
+use e3_report::lines::Page;
 use e3_types::{Leave, List, NoMemory};
 use std::alloc::Global;
 

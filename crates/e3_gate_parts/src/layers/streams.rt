@@ -1,9 +1,9 @@
 // Streams in memory and over readers and writers of std: what a call takes, what fails, and when it is made again.
 use crate::texts::{bytes_of, push_hex};
-use e3_lines::Page;
 use e3_outside::{
     Failed, MemSink, MemSource, ReadFault, Sink, Source, StdSink, StdSource, read_up_to, write_all,
 };
+use e3_report::lines::Page;
 use e3_types::{List, NoMemory};
 use std::alloc::Global;
 use std::io::{self, ErrorKind, Read, Write};

@@ -1,8 +1,8 @@
 // What the two tables of locks answer to the same calls, of several modes and names. The transactions are numbered in the order in
 // which they began: the first is the oldest.
 use crate::texts::{cut, parts_of, push_txn, push_word};
-use e3_lines::Page;
 use e3_locks::{Granted, ListLocks, LockCall, LockTable, Locks, replay_locks};
+use e3_report::lines::Page;
 use e3_types::{Grant, List, Mode, Name, NoMemory, SiteSet, Txn};
 use std::alloc::Global;
 

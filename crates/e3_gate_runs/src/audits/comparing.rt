@@ -1,7 +1,7 @@
 // What both judges say of histories.
 use crate::audits::changes::{CHANGES, changed};
-use e3_audit::{Breach, audit};
-use e3_judge::{is_whole, judge};
+use e3_judge::audit::audit;
+use e3_judge::{Breach, is_whole, judge};
 use e3_types::{Entry, NoMemory, Scenario};
 use e3_world::History;
 use std::alloc::Global;

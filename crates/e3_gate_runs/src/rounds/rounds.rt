@@ -1,8 +1,8 @@
 // The recovery rounds of a history: how many entries of its own each took, beside its bound, and what `recover` reports of it.
 use crate::rounds::verdicts::push_verdict_or_none;
-use e3_lines::Page;
 use e3_play::round_report;
 use e3_readings::RecoveryRound;
+use e3_report::lines::Page;
 use e3_types::{Act, Entry, Input, Item, Message, Scenario, Txn};
 
 // The step of this number is a recovery.

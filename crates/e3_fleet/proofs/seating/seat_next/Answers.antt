@@ -1,6 +1,6 @@
 use Rattle.std.proofs.Common.{◌≡◌, ◌∙◌, ◌+◌, ◌++◌, ◌∷◌, [], ℕ, List, length, refl, rules, sym, ap, subst}
 use Rattle.std.proofs.lemmas.Option.{slice_get_read}
-use Rattle.e3_crew.specs.declared.worker.Worker.{Worker}
+use Rattle.e3_fleet.specs.declared.crew.worker.Worker.{Worker}
 use Rattle.e3_fleet.specs.Fleets.{AreSeated, nodes_of}
 use Rattle.e3_fleet.specs.Over.{AreBlank}
 use Rattle.e3_fleet.proofs.Holding.{nodes_length, nodes_more}

@@ -1,5 +1,5 @@
 use Rattle.std.proofs.Common.{◌≡◌, ◌++◌, ◌∷◌, [], List, ap, arith, length, length-append, refl, sym, ◌∙◌}
-use Rattle.e3_crew.specs.declared.worker.Worker.{Worker}
+use Rattle.e3_fleet.specs.declared.crew.worker.Worker.{Worker}
 use Rattle.e3_fleet.specs.Fleets.{disks_of, nodes_of}
 use Rattle.e3_fleet.proofs.seating.unseat_all.Goals as goal
 use Rattle.e3_node.specs.NodeView.{NodeView, disk_of}

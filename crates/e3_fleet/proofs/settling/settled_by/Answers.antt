@@ -1,7 +1,7 @@
 use Rattle.std.proofs.Common.{◌≡◌, ◌≢◌, ◌∙◌, [], ℕ, true, List, sym, subst}
 use Rattle.std.specs.Prelude.{Err, OnOk}
-use Rattle.e3_crew.specs.Crews.{HasGoneOn, IsCrew}
-use Rattle.e3_crew.specs.declared.worker.Worker.{Worker}
+use Rattle.e3_fleet.specs.crew.Crews.{HasGoneOn, IsCrew}
+use Rattle.e3_fleet.specs.declared.crew.worker.Worker.{Worker}
 use Rattle.e3_fleet.specs.Fleets.{FleetStands, IsFleetOn, nodes_of}
 use Rattle.e3_fleet.proofs.Holding.{crew_of, filled, may_put, nothing_added, taken_again, told_of}
 use Rattle.e3_fleet.proofs.Working.{crew_on}

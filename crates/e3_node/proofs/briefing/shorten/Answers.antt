@@ -1,6 +1,6 @@
 use Rattle.std.proofs.Common.{◌≡◌, ◌∙◌, sym}
 use Rattle.e3_world.specs.Brief.{brief}
-use Rattle.e3_law_brief.proofs.Laws.{are_some}
+use Rattle.e3_laws.proofs.brief.Laws.{are_some}
 use Rattle.e3_node.proofs.Briefs.{due_short}
 use Rattle.e3_node.proofs.briefing.shorten.Goals as goal
 

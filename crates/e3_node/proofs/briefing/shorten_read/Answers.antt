@@ -2,7 +2,7 @@ use Rattle.std.proofs.Common.{◌≡◌, ◌≤◌, ◌∙◌, inl, inr, ℕ, Li
 use Rattle.std.proofs.lemmas.List.{length-take-le}
 use Rattle.std.specs.Prelude.{Ok}
 use Rattle.e3_world.specs.Brief.{brief}
-use Rattle.e3_law_brief.proofs.Laws.{are_some}
+use Rattle.e3_laws.proofs.brief.Laws.{are_some}
 use Rattle.e3_node.specs.Briefing.{IsReadBrief}
 use Rattle.e3_site_log.specs.Ends.{HasRoom}
 use Rattle.e3_types.specs.declared.records.Record.{Record}

@@ -1,4 +1,4 @@
-use Rattle.e3_law_local.proofs.Measure.Left.{left}
+use Rattle.e3_laws.proofs.local.Measure.Left.{left}
 use Rattle.e3_play.specs.GoingOn.{SitesGoOn}
 use Rattle.e3_play.specs.Delivered.{Delivers}
 use Rattle.e3_play.proofs.delivering.deliver_all.Given as goal

@@ -1,6 +1,6 @@
 use Rattle.std.proofs.Common.{◌≡◌, take, fold}
 use Rattle.std.specs.List.{flat_map}
-use Rattle.e3_law_rounds.specs.Rounds.{verdict_in}
+use Rattle.e3_laws.specs.rounds.Rounds.{verdict_in}
 use Rattle.e3_play.specs.Reports.{later}
 use Rattle.e3_play.proofs.reporting.verdict_after.Given as goal
 

@@ -3,7 +3,7 @@ use Rattle.std.specs.List.{flat_map}
 use Rattle.e3_types.specs.declared.entries.Told.{Told}
 use Rattle.e3_types.specs.declared.transactions.Txn.{Txn}
 use Rattle.e3_world.specs.Items.{RecoveryRound}
-use Rattle.e3_law_rounds.specs.Rounds.{verdict_in}
+use Rattle.e3_laws.specs.rounds.Rounds.{verdict_in}
 use Rattle.e3_play.specs.Reports.{later}
 use Rattle.e3_play.proofs.Told.{told_by_another, told_by_elector}
 use Rattle.e3_play.proofs.reporting.verdict_with.Goals as goal

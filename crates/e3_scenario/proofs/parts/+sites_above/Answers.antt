@@ -1,7 +1,7 @@
 use Rattle.std.proofs.Common.{◌≡◌, Some, sym}
 use Rattle.e3_scenario.specs.Parts.{site_of}
 use Rattle.e3_scenario.specs.Words.{before}
-use Rattle.e3_lines.specs.Marks.{comma}
+use Rattle.e3_report.specs.lines.Marks.{comma}
 use Rattle.e3_scenario.proofs.Pieces.{low_site}
 use Rattle.e3_scenario.proofs.parts.+sites_above.Goals as goal
 

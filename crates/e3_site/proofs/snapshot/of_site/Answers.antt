@@ -1,6 +1,6 @@
 use Rattle.std.proofs.Common.{◌≡◌, ℕ, List, ap, sym, subst, ◌∙◌}
-use Rattle.e3_past.specs.declared.tables.Tables.{Tables}
-use Rattle.e3_past.specs.Standing.{TablesStand}
+use Rattle.e3_site.specs.declared.past.tables.Tables.{Tables}
+use Rattle.e3_site.specs.past.Standing.{TablesStand}
 use Rattle.e3_world.specs.declared.lives.Incarnation.{Incarnation}
 use Rattle.e3_world.specs.declared.lives.Life.{Life}
 use Rattle.e3_world.specs.Lives.{life_at, life_of, present_log}
@@ -8,8 +8,8 @@ use Rattle.e3_world.specs.Moves.{Move, log_of, moves_of}
 use Rattle.e3_world.proofs.Pushes.{life_log, life_log_at}
 use Rattle.e3_world.specs.Brief.{brief}
 use Rattle.e3_site.specs.Tables.{IsInOrder}
-use Rattle.e3_law_brief.specs.Alike.{ReadAlike}
-use Rattle.e3_law_brief.proofs.Laws.{same_brief}
+use Rattle.e3_laws.specs.brief.Alike.{ReadAlike}
+use Rattle.e3_laws.proofs.brief.Laws.{same_brief}
 use Rattle.e3_site.specs.StandsAlike.{now_with}
 use Rattle.e3_site.proofs.AlikeTables.{in_order_alike}
 use Rattle.e3_site.proofs.Legal.{in_order}

@@ -1,6 +1,6 @@
 -- the members so far, and the bytes that are left
 use Rattle.std.proofs.Common.{◌≡◌, [], length}
-use Rattle.e3_lines.specs.Marks.{pieces}
+use Rattle.e3_report.specs.lines.Marks.{pieces}
 use Rattle.e3_trace.specs.Fields.{list_from}
 use Rattle.e3_trace.proofs.fields.list.Given as goal
 

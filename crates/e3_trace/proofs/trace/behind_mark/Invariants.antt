@@ -1,6 +1,6 @@
 -- the bytes that are left, before which no line is the mark
 use Rattle.std.proofs.Common.{◌≡◌, ◌≤◌, length}
-use Rattle.e3_lines.specs.Marks.{feed, pieces}
+use Rattle.e3_report.specs.lines.Marks.{feed, pieces}
 use Rattle.e3_trace.specs.Trace.{behind_mark}
 use Rattle.e3_trace.proofs.trace.behind_mark.Given as goal
 

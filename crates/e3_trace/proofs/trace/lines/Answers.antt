@@ -2,7 +2,7 @@ use Rattle.std.proofs.Common.{◌≡◌, ◌∙◌, false, Some, sym, arith}
 use Rattle.std.specs.Prelude.{bytes_eq, codes}
 use Rattle.std.proofs.lemmas.Result.{err_from_is_err_and}
 use Rattle.e3_trace.specs.Cuts.{cut}
-use Rattle.e3_lines.specs.Marks.{feed, pieces}
+use Rattle.e3_report.specs.lines.Marks.{feed, pieces}
 use Rattle.e3_trace.specs.Trace.{nothing_read, lines_read}
 use Rattle.e3_trace.proofs.Lines.{line_on, line_stops}
 use Rattle.e3_trace.proofs.trace.lines.Goals as goal

@@ -1,6 +1,6 @@
 -- what is read, and the bytes that are left
 use Rattle.std.proofs.Common.{◌≡◌, ◌≤◌, ◌+◌, length}
-use Rattle.e3_lines.specs.Marks.{feed, pieces}
+use Rattle.e3_report.specs.lines.Marks.{feed, pieces}
 use Rattle.e3_trace.specs.Trace.{nothing_read, lines_read}
 use Rattle.e3_trace.proofs.trace.lines.Given as goal
 

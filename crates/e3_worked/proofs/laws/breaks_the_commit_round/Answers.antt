@@ -1,7 +1,7 @@
 use Rattle.std.specs.Prelude.{◌≡◌, [], refl, codes, Some}
 use Rattle.e3_types.specs.Sites.{bits_of}
 use Rattle.e3_types.specs.declared.transactions.Dir.TheVariants.{Abort, Commit}
-use Rattle.e3_law_rounds.specs.Commits.{CommitStands}
+use Rattle.e3_laws.specs.rounds.Commits.{CommitStands}
 use Rattle.e3_worked.specs.CommitRound.{commit_round, before_commit, t1_1_1}
 use Rattle.e3_worked.specs.WrongNo.{behind_the_commit, history_with_a_wrong_no}
 use Rattle.e3_worked.proofs.laws.breaks_the_commit_round.Goals as goal

@@ -1,6 +1,6 @@
 use Rattle.std.proofs.Common.{ap, subst, sym, ◌∙◌}
-use Rattle.e3_past.specs.Stepping.{HasRoom}
-use Rattle.e3_past.specs.declared.tables.Behind.{Behind}
+use Rattle.e3_site.specs.past.Stepping.{HasRoom}
+use Rattle.e3_site.specs.declared.past.tables.Behind.{Behind}
 use Rattle.e3_site.proofs.Standing.{own_parts, plan_follows, stands_on, tables_on}
 use Rattle.e3_site.specs.SiteView.{IsPlanOf, SiteView, Stands, with_step}
 use Rattle.e3_world.specs.Lives.{life_of}

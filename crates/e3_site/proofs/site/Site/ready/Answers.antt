@@ -1,6 +1,6 @@
 use Rattle.std.proofs.Common.{OnOk, ap, subst, sym}
-use Rattle.e3_past.specs.Stepping.{ActAlike, HasRoom}
-use Rattle.e3_past.specs.declared.tables.Behind.{Behind}
+use Rattle.e3_site.specs.past.Stepping.{ActAlike, HasRoom}
+use Rattle.e3_site.specs.declared.past.tables.Behind.{Behind}
 use Rattle.e3_site.proofs.Standing.{own_still, stands_still}
 use Rattle.e3_site.specs.SiteView.{SiteView, Stands}
 use Rattle.e3_world.specs.Lives.{life_of}

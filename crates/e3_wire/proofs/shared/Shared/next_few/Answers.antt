@@ -1,6 +1,6 @@
 use Rattle.std.proofs.Common.{◌≡◌, ◌≤◌, ◌++◌, List, length, min, take, ap, subst, ◌∙◌, arith}
 use Rattle.std.proofs.lemmas.List.{length-take}
-use Rattle.e3_law_local.specs.Least.{queue_to}
+use Rattle.e3_laws.specs.local.Least.{queue_to}
 use Rattle.e3_net.specs.declared.waiting.Waiting.{Waiting}
 use Rattle.e3_net.specs.Traffic.{queue_in}
 use Rattle.e3_types.specs.declared.messages.Packet.{Packet}

@@ -1,7 +1,0 @@
-use Rattle.e3_crew.specs.Drops.{HasDropped}
-use Rattle.e3_crew.proofs.dropping.drop_in.Given as goal
-
-abbrev pub invariant-loop-worker : goal.invariant-loop-worker
-invariant-loop-worker g l = record {
-  dropped : HasDropped l.fn.shared l.shared;
-}

@@ -1,9 +1,0 @@
-use Rattle.e3_crew.specs.Workers.{HasWorked, IsPassFor}
-use Rattle.e3_turn.specs.Passes.{seen_by}
-use Rattle.e3_crew.proofs.working.give_packets.Given as goal
-
-abbrev pub invariant-loop : goal.invariant-loop
-invariant-loop g l = record {
-  pass : IsPassFor l.works.wire.now l.node.site l.pass;
-  worked : HasWorked g.D.Disk.meaning (seen_by l.fn.pass) l.fn.node (seen_by l.pass) l.node;
-}

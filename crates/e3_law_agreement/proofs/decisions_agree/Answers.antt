@@ -1,9 +1,0 @@
-use Rattle.e3_law_agreement.proofs.Protocol.Agree.{agrees}
-use Rattle.e3_law_agreement.proofs.Protocol.Keep.{law}
-use Rattle.e3_law_agreement.proofs.decisions_agree.Goals as goal
-
-pub returns-clause-invariant : goal.returns-clause-invariant
-returns-clause-invariant c = law
-
-pub returns-clause-agree : goal.returns-clause-agree
-returns-clause-agree c = λ g s o r. agrees g s (law g s o r)

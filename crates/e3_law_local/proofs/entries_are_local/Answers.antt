@@ -1,8 +1,0 @@
-use Rattle.e3_law_local.proofs.Laws.{local, local_keeps_legal}
-use Rattle.e3_law_local.proofs.entries_are_local.Goals as goal
-
-pub returns-clause-local : goal.returns-clause-local
-returns-clause-local c = local
-
-pub returns-clause-legal : goal.returns-clause-legal
-returns-clause-legal c = local_keeps_legal

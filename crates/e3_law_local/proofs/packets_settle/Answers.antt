@@ -1,8 +1,0 @@
-use Rattle.e3_law_local.proofs.Measure.Answering.{answers_end_or_doom, packets_settle}
-use Rattle.e3_law_local.proofs.packets_settle.Goals as goal
-
-pub returns-clause-answers : goal.returns-clause-answers
-returns-clause-answers c = answers_end_or_doom
-
-pub returns-clause-packets : goal.returns-clause-packets
-returns-clause-packets c = packets_settle c.packets_fall_in_rank.ensures

@@ -1,8 +1,0 @@
-use Rattle.e3_law_steps.proofs.Inputs.{ranks_fall, own_end}
-use Rattle.e3_law_steps.proofs.own_messages_end.Goals as goal
-
-pub returns-clause-ranks : goal.returns-clause-ranks
-returns-clause-ranks c = ranks_fall
-
-pub returns-clause-ends : goal.returns-clause-ends
-returns-clause-ends c = own_end

@@ -1,8 +1,0 @@
-use Rattle.e3_law_steps.proofs.Suits.Laws.{records_suit, votes_suit}
-use Rattle.e3_law_steps.proofs.records_suit_their_site.Goals as goal
-
-pub returns-clause-records : goal.returns-clause-records
-returns-clause-records c = records_suit
-
-pub returns-clause-votes : goal.returns-clause-votes
-returns-clause-votes c = votes_suit

@@ -1,0 +1,113 @@
+-- The members of a round ascend, so that the others take their turns.
+use Rattle.std.proofs.Common.{◌≡◌, ◌==◌, ◌||◌, ◌&&◌, ◌<◌, ◌≤◌, ℕ, suc, Bool, true, false, List, [], ◌∷◌, ◌++◌, append_assoc, length, length-append, ◌∙◌, ap, sym, refl, filter, arith, eqb-true, nat_lt, nat_le}
+use Rattle.std.proofs.lemmas.Bool.{and_parts, ne_eqb}
+use Rattle.std.proofs.lemmas.Grind.{common_steps}
+use Rattle.std.proofs.lemmas.List.Folds.{list_any-append}
+use Rattle.e3_types.specs.Sets.{ascends, has_site, others}
+use Rattle.e3_world.specs.Items.{RecoveryRound}
+use Rattle.e3_world.proofs.Turns.{self}
+use Rattle.e3_laws.proofs.rounds.Phases.Walked.{Each, Turn}
+use Rattle.e3_laws.proofs.steps.Tests.{or_true}
+
+lt_from : (a b : ℕ) → nat_lt a b ≡ true → a < b
+lt_from a b is = grind (arith, common_steps, is)
+
+lt_is : (a b : ℕ) → a < b → nat_lt a b ≡ true
+lt_is a b is = grind (arith, common_steps, is)
+
+pub split : (low x : ℕ) (xs : List ℕ) → ascends low (x ∷ xs) ≡ true → (nat_lt low x ≡ true) × (nat_le x 64 ≡ true) × (ascends x xs ≡ true)
+split low x xs is =
+    let one = and_parts (nat_lt low x && nat_le x 64) (ascends x xs) is in
+    let two = and_parts (nat_lt low x) (nat_le x 64) one.0 in
+    (two.0, two.1, one.1)
+
+-- the sites of a list that ascends are above its bound
+above : (low : ℕ) (xs : List ℕ) → ascends low xs ≡ true → (x : ℕ) → has_site xs x ≡ true → low < x
+above low [] is x has = absurd cc
+above low (y ∷ ys) is x has = by (above y ys parts.2 x) (y == x) refl has
+  where
+    parts : (nat_lt low y ≡ true) × (nat_le y 64 ≡ true) × (ascends y ys ≡ true)
+    parts = split low y ys is
+
+    first : low < y
+    first = lt_from low y parts.0
+
+    by : (has_site ys x ≡ true → y < x) → (b : Bool) → (y == x) ≡ b → ((y == x) || has_site ys x) ≡ true → low < x
+    by rest true same has = let e : y ≡ x = eqb-true y x same in omega (arith, first, e)
+    by rest false other has = let later : y < x = rest (ap (λ b. b || has_site ys x) (sym other) ∙ has) in omega (arith, first, later)
+
+absent : (xs : List ℕ) (m : ℕ) → (has_site xs m ≡ true → ⊥) → has_site xs m ≡ false
+absent xs m never = by (has_site xs m) refl
+  where
+    by : (b : Bool) → has_site xs m ≡ b → has_site xs m ≡ false
+    by false is = is
+    by true is = absurd (never is)
+
+pub turns_are : (r : RecoveryRound) (low : ℕ) (done todo : List ℕ) → r.members ≡ r.elector ∷ (done ++ todo) → others r.elector r.members ≡ done ++ todo →
+    ((x : ℕ) → has_site (r.elector ∷ done) x ≡ true → x ≤ low) → ascends low todo ≡ true → Each (Turn r) done todo
+turns_are r low done [] members receivers under is = tt
+turns_are r low done (m ∷ todo) members receivers under is =
+    (turn, turns_are r m (done ++ m ∷ []) todo (members ∙ ap (λ l. r.elector ∷ l) (sym (append_assoc done (m ∷ []) todo))) (receivers ∙ sym (append_assoc done (m ∷ []) todo)) under_now parts.2)
+  where
+    parts : (nat_lt low m ≡ true) × (nat_le m 64 ≡ true) × (ascends m todo ≡ true)
+    parts = split low m todo is
+
+    high : low < m
+    high = lt_from low m parts.0
+
+    leader : r.elector ≤ low
+    leader = under r.elector (ap (λ b. b || has_site done r.elector) (self r.elector))
+
+    among : has_site (done ++ m ∷ todo) m ≡ true
+    among = list_any-append (λ y. y == m) done (m ∷ todo) ∙ rw (self m) (or_true (has_site done m))
+
+    turn : Turn r done m todo
+    turn = record {
+      member = ap (λ l. has_site l m) members ∙ ap (λ b. (r.elector == m) || b) among ∙ or_true (r.elector == m);
+      receives = ap (λ l. has_site l m) receivers ∙ among;
+      from_other = ne_eqb r.elector m (λ e. let clash : ⊥ = omega (arith, high, leader, e) in clash);
+      away = ne_eqb m r.elector (λ e. let clash : ⊥ = omega (arith, high, leader, e) in clash);
+      fresh = absent (r.elector ∷ done) m (λ has. let less : m ≤ low = under m has in let clash : ⊥ = omega (arith, high, less) in clash);
+      once = absent todo m (λ has. let more : m < m = above m todo parts.2 m has in let clash : ⊥ = omega (arith, more) in clash);
+      long = ap length members ∙ ap suc (length-append done (m ∷ todo));
+    }
+
+    under_now : (x : ℕ) → has_site (r.elector ∷ (done ++ m ∷ [])) x ≡ true → x ≤ m
+    under_now x has = by (m == x) refl
+      where
+        or_false : (b : Bool) → (b || false) ≡ b
+        or_false true = refl
+        or_false false = refl
+
+        by : (b : Bool) → (m == x) ≡ b → x ≤ m
+        by true same = let e : m ≡ x = eqb-true m x same in omega (arith, e)
+        by false other =
+            let less : x ≤ low = under x (sym (list_any-append (λ y. y == x) (r.elector ∷ done) (m ∷ []) ∙ rw other (or_false (has_site (r.elector ∷ done) x))) ∙ has) in omega (arith, less, high)
+
+-- what is filtered ascends too
+ascends_lower : (low n : ℕ) (xs : List ℕ) → low ≤ n → ascends n xs ≡ true → ascends low xs ≡ true
+ascends_lower low n [] less is = refl
+ascends_lower low n (x ∷ xs) less is =
+    let one = split n x xs is in
+    let high : n < x = lt_from n x one.0 in
+    rw (lt_is low x (omega (arith, less, high)), one.1) one.2
+
+pub ascends_filter : (p : ℕ → Bool) (low : ℕ) (xs : List ℕ) → ascends low xs ≡ true → ascends low (filter p xs) ≡ true
+ascends_filter p low [] is = refl
+ascends_filter p low (x ∷ xs) is = by (ascends_filter p x xs one.2) (p x) refl
+  where
+    one : (nat_lt low x ≡ true) × (nat_le x 64 ≡ true) × (ascends x xs ≡ true)
+    one = split low x xs is
+
+    by : ascends x (filter p xs) ≡ true → (b : Bool) → p x ≡ b → ascends low (filter p (x ∷ xs)) ≡ true
+    by rest true here = rw (here, one.0, one.1) rest
+    by rest false here = let high : low < x = lt_from low x one.0 in rw here (ascends_lower low x (filter p xs) (omega (arith, high)) rest)
+
+-- and the receivers are the others
+pub others_are : (s low : ℕ) (xs : List ℕ) → s ≤ low → ascends low xs ≡ true → others s xs ≡ xs
+others_are s low [] less is = refl
+others_are s low (x ∷ xs) less is =
+    let one = split low x xs is in
+    let high : low < x = lt_from low x one.0 in
+    let apart : (x == s) ≡ false = ne_eqb x s (λ e. let clash : ⊥ = omega (arith, high, less, e) in clash) in
+    rw apart (ap (λ l. x ∷ l) (others_are s x xs (omega (arith, high, less)) one.2))

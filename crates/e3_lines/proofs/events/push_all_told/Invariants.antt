@@ -1,7 +1,0 @@
-use Rattle.std.proofs.Common.{◌≡◌, ◌++◌, take}
-use Rattle.std.specs.List.{flat_map}
-use Rattle.e3_lines.specs.Events.{told_line}
-use Rattle.e3_lines.proofs.events.push_all_told.Given as goal
-
-abbrev pub invariant-loop-told : goal.invariant-loop-told
-invariant-loop-told l = l.out ≡ l.initial.out ++ flat_map (told_line l.site) (take l.told-index l.events)

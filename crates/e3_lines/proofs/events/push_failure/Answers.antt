@@ -1,8 +1,0 @@
--- the pieces, one after the other
-use Rattle.std.proofs.Common.{append_assoc}
-use Rattle.e3_lines.specs.Events.{failure_text}
-use Rattle.e3_lines.proofs.events.push_failure.Goals as goal
-
-pub returns : goal.returns
-unfolding failure_text
-returns c = rw (c.in_ok-push_why.ensures, c.in_ok-push_text.ensures, c.in_ok-push_labelled.ensures) (simp append_assoc)

@@ -1,6 +1,0 @@
-use Rattle.std.proofs.Common.{◌≡◌, ◌++◌, take}
-use Rattle.std.specs.List.{flat_map}
-use Rattle.e3_lines.proofs.listed.push_each.Given as goal
-
-abbrev pub invariant-loop-one : goal.invariant-loop-one
-invariant-loop-one g l = l.out ≡ l.initial.out ++ flat_map g.T.Lines.lines (take l.one-index l.listed)

@@ -1,7 +1,0 @@
-use Rattle.std.proofs.Common.{◌≡◌, ◌++◌, take}
-use Rattle.std.specs.List.{flat_map}
-use Rattle.e3_lines.specs.Records.{op_line}
-use Rattle.e3_lines.proofs.records.push_vote.Given as goal
-
-abbrev pub invariant-loop-op : goal.invariant-loop-op
-invariant-loop-op l = l.out ≡ l.initial.out ++ flat_map (op_line l.mark) (take l.op-index l.ops)

@@ -1,6 +1,0 @@
-use Rattle.std.proofs.Common.{◌≡◌, drop}
-use Rattle.e3_lines.specs.Spelled.{one_of}
-use Rattle.e3_lines.proofs.spelled.one_of.Given as goal
-
-abbrev pub invariant-loop-word : goal.invariant-loop-word
-invariant-loop-word g l = one_of l.text (drop l.word-index l.words) ≡ one_of l.text l.words

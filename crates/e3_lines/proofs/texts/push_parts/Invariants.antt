@@ -1,7 +1,0 @@
-use Rattle.std.proofs.Common.{◌≡◌, ◌++◌, take}
-use Rattle.std.specs.List.{flat_map}
-use Rattle.e3_lines.specs.Texts.{after_bar}
-use Rattle.e3_lines.proofs.texts.push_parts.Given as goal
-
-abbrev pub invariant-loop-part : goal.invariant-loop-part
-invariant-loop-part l = l.out ≡ l.initial.out ++ flat_map after_bar (take l.part-index l.more)

@@ -1,4 +1,0 @@
-use Rattle.e3_past.proofs.names.grants_after.Given as goal
-
-abbrev pub ghost-grants_after : goal.ghost-grants_after
-ghost-grants_after g a = g.a

@@ -1,4 +1,0 @@
-use Rattle.e3_past.proofs.names.row.Goals as goal
-
-pub row-requires : goal.row-requires
-row-requires g c = (c.requires.0.places_stand, c.requires.1)

@@ -1,6 +1,0 @@
-use Rattle.std.proofs.Common.{ap, not, ◌∙◌}
-use Rattle.e3_past.proofs.Undecided.{left_is}
-use Rattle.e3_past.proofs.opening.is_left.Goals as goal
-
-pub returns : goal.returns
-returns c = ap not c.is_decision.ensures ∙ left_is c.args.t.now c.args.r.now

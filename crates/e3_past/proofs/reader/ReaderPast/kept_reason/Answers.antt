@@ -1,5 +1,0 @@
-use Rattle.e3_past.proofs.reader.ReaderPast.kept_reason.Goals as goal
-
-pub returns : goal.returns
-returns g c =
-    c.kept_reason.ensures g.K.Whose.place c.self.invariant.cards_stand

@@ -1,4 +1,0 @@
-use Rattle.e3_past.proofs.reader.ReaderPast.lock.Given as goal
-
-abbrev pub ghost-lock : goal.ghost-lock
-ghost-lock g a = g.K.Whose.place

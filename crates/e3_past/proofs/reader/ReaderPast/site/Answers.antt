@@ -1,5 +1,0 @@
-use Rattle.e3_past.proofs.reader.ReaderPast.site.Goals as goal
-
-pub returns : goal.returns
-returns g c =
-    c.self.invariant.cards_stand.site_is

@@ -1,4 +1,0 @@
-use Rattle.e3_past.proofs.reader.ReaderPast.value.Given as goal
-
-abbrev pub ghost-row : goal.ghost-row
-ghost-row g a = g.K.Whose.place

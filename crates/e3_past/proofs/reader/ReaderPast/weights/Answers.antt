@@ -1,5 +1,0 @@
-use Rattle.std.proofs.Common.{sym}
-use Rattle.e3_past.proofs.reader.ReaderPast.weights.Goals as goal
-
-pub returns : goal.returns
-returns g c = sym c.self.invariant.weights_are

@@ -1,0 +1,7 @@
+use Rattle.std.proofs.Common.{◌≡◌, ◌++◌, take}
+use Rattle.std.specs.List.{flat_map}
+use Rattle.e3_report.specs.lines.Records.{record_lines}
+use Rattle.e3_report.proofs.lines.records.push_records.Given as goal
+
+abbrev pub invariant-loop-r : goal.invariant-loop-r
+invariant-loop-r l = l.out ≡ l.initial.out ++ flat_map (record_lines l.mark) (take l.r-index l.log)

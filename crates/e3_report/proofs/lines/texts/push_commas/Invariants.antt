@@ -1,0 +1,7 @@
+use Rattle.std.proofs.Common.{◌≡◌, ◌++◌, take}
+use Rattle.std.specs.List.{flat_map}
+use Rattle.e3_report.specs.lines.Texts.{after_comma}
+use Rattle.e3_report.proofs.lines.texts.push_commas.Given as goal
+
+abbrev pub invariant-loop-number : goal.invariant-loop-number
+invariant-loop-number l = l.out ≡ l.initial.out ++ flat_map after_comma (take l.number-index l.more)
