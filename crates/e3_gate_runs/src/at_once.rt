@@ -8,11 +8,10 @@ mod batches;
 mod meeting;
 mod nodes;
 
-use crate::playing::{Ran, run_behind};
+use crate::given::{Given, Ran, played_behind};
 use batches::push_batches;
 use e3_outside::MemSink;
 use e3_report::lines::Page;
-use e3_types::List;
 use meeting::Meeting;
 use nodes::push_nodes;
 use std::alloc::Global;
@@ -35,9 +34,7 @@ struct Tally {
 
 // The report of a run behind this gate; none without memory.
 fn reported<R: Wait + Threads + Sync>(rt: &R, alloc: Global, gate: &Meeting) -> Option<MemSink> {
-    let mut text = List::new(alloc);
-    text.extend(SCENARIO.as_bytes()).ok()?;
-    let Ran { sink, .. } = run_behind(rt, alloc, text, gate)?;
+    let Ran { sink, .. } = played_behind(rt, alloc, &Given::of(SCENARIO.as_bytes()), gate)?;
     Some(sink)
 }
 

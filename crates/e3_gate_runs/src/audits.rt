@@ -6,6 +6,7 @@ mod changes;
 mod comparing;
 
 use crate::playing::history_of;
+use crate::texts::without_end;
 use comparing::{Tally, compare_all};
 use e3_report::lines::Page;
 use e3_scenario::read_scenario;
@@ -35,7 +36,7 @@ fn push_row<R: Wait + Threads + Sync>(
     name: &[u8],
     text: &Page,
 ) {
-    page.bytes(name.strip_suffix(b"\n").unwrap_or(name));
+    page.bytes(without_end(name));
     if !text.is_whole() {
         page.lack();
     }

@@ -1,10 +1,10 @@
-// Runs of scenarios over disks in memory.
+// Scenarios that are played over disks in memory.
+ghost use Rattle.std.specs.Prelude.{◌≤◌, ◌^◌};
 ghost use Rattle.e3_world.specs.Given.{IsGiven};
 
 use e3_disk::MemDisk;
-use e3_fleet::{memory_disks, play_over};
-use e3_outside::{Gate, MemSink, MemSource, OpenGate};
-use e3_top::{Ended, run};
+use e3_fleet::{Played, memory_disks, play_over};
+use e3_outside::{Gate, OpenGate};
 use e3_types::{List, Scenario};
 use e3_world::History;
 use std::alloc::Global;
@@ -23,7 +23,28 @@ pub const PACKETS: u32 = 8;
 /// How many entries a history may have.
 pub const MOST: u32 = 2_000_000;
 
-/// The history of a run of this scenario; none without memory.
+/// What a play of this scenario leaves over disks of this capacity, behind a gate, in so many threads, a worker taking so many
+/// packets at most in one turn of work; none without memory.
+pub fn played_over<G: Gate + Sync, R: Wait + Threads + Sync>(
+    rt: &R,
+    alloc: Global,
+    scenario: &Scenario,
+    capacity: u64,
+    gate: &G,
+    threads: usize,
+    packets: u32,
+) -> Option<Played<MemDisk>>
+    requires given { IsGiven scenario.now }
+    requires least { 2 ≤ capacity }
+    requires most { capacity ≤ 2 ^ 30 }
+{
+    let Ok(disks) = memory_disks(alloc, capacity, 0, List::new(alloc)) else {
+        return None;
+    };
+    Some(play_over(rt, alloc, scenario, disks, gate, threads, packets, MOST))
+}
+
+/// The history of a play of this scenario; none without memory.
 pub fn history_of<R: Wait + Threads + Sync>(
     rt: &R,
     alloc: Global,
@@ -31,42 +52,6 @@ pub fn history_of<R: Wait + Threads + Sync>(
 ) -> Option<History>
     requires { IsGiven scenario.now }
 {
-    let Ok(disks) = memory_disks(alloc, CAPACITY, 0, List::new(alloc)) else {
-        return None;
-    };
-    let played = play_over(
-        rt, alloc, scenario, disks, &OpenGate, THREADS, PACKETS, MOST,
-    );
+    let played = played_over(rt, alloc, scenario, CAPACITY, &OpenGate, THREADS, PACKETS)?;
     Some(played.history)
-}
-
-/// What a run leaves.
-#[derive(Drop)]
-pub struct Ran {
-    pub ended: Ended<MemDisk>,
-    pub sink: MemSink,
-}
-
-// The word that asks for a run.
-fn words(alloc: Global) -> Option<Vec<String>> {
-    let mut words = Vec::new(alloc);
-    words.push(String::from_str(alloc, "run").ok()?).ok()?;
-    Some(words)
-}
-
-/// A run of what is read, as the program does it, behind a gate; none without memory.
-pub fn run_behind<G: Gate + Sync, R: Wait + Threads + Sync>(
-    rt: &R,
-    alloc: Global,
-    text: List<u8>,
-    gate: &G,
-) -> Option<Ran> {
-    let words = words(alloc)?;
-    let mut source = MemSource::new(text, 4096, List::new(alloc));
-    let mut sink = MemSink::new(alloc, 65536, 65536, List::new(alloc)).ok()?;
-    let Ok(disks) = memory_disks(alloc, CAPACITY, 0, List::new(alloc)) else {
-        return None;
-    };
-    let ended = run(rt, alloc, &words, &mut source, &mut sink, disks, gate);
-    Some(Ran { ended, sink })
 }

@@ -2,13 +2,14 @@
 ghost use Rattle.std.specs.Prelude.{IfSome};
 ghost use Rattle.e3_world.specs.Given.{IsGiven};
 
-use crate::playing::{CAPACITY, MOST, run_behind};
+use crate::given::{Given, played};
+use crate::playing::{CAPACITY, played_over};
 use e3_disk::MemDisk;
-use e3_fleet::{Played, memory_disks, play_over};
+use e3_fleet::Played;
 use e3_outside::OpenGate;
 use e3_report::lines::Page;
 use e3_scenario::read_scenario;
-use e3_types::{List, Scenario};
+use e3_types::Scenario;
 use std::alloc::Global;
 use std::sync::Wait;
 use std::thread::Threads;
@@ -70,12 +71,8 @@ fn calls_at_end<R: Wait + Threads + Sync>(
 ) -> Option<Calls>
     requires { IsGiven scenario.now }
 {
-    let Ok(disks) = memory_disks(alloc, CAPACITY, 0, List::new(alloc)) else {
-        return None;
-    };
-    calls_behind(&play_over(
-        rt, alloc, scenario, disks, &OpenGate, THREADS, packets, MOST,
-    ))
+    let played = played_over(rt, alloc, scenario, CAPACITY, &OpenGate, THREADS, packets)?;
+    calls_behind(&played)
 }
 
 // The text of the scenario of these steps.
@@ -99,7 +96,7 @@ pub fn scenario_of(alloc: Global, steps: &[&str]) -> Option<Scenario>
 // The same by a run of the text of these steps, which says itself how many packets a worker takes.
 fn calls_run<R: Wait + Threads + Sync>(rt: &R, alloc: Global, steps: &[&str]) -> Option<Calls> {
     let text = text_of(alloc, steps).done()?;
-    let ran = run_behind(rt, alloc, text, &OpenGate)?;
+    let ran = played(rt, alloc, &Given::of(text.as_slice()))?;
     if ran.ended.status != 0 {
         return None;
     }

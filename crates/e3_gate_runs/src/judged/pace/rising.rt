@@ -1,4 +1,5 @@
 // What a rise costs over a long log: just before the log is turned to its brief, and just behind that.
+use crate::judged::frames::add;
 use e3_codec::{put_records, read_records};
 use e3_disk::{Disk, MemDisk};
 use e3_log::{Frame, Log};
@@ -16,9 +17,6 @@ const CAPACITY: u64 = 33_554_432;
 
 /// More transactions than the log has room for.
 const MOST: u32 = 100_000;
-
-/// The first byte of a body that a turn writes.
-const TURN: u8 = 7;
 
 /// What a rise read, and how long that took, until the site was up but for its own frame.
 #[derive(Clone, Copy)]
@@ -91,14 +89,6 @@ fn commit_records(alloc: Global, seq: u32, writes: u32) -> Result<List<Record>, 
     Ok(records)
 }
 
-// Adds the frame of some records; none where the log has no room.
-fn add<D: Disk>(log: &mut Log<D>, body: &[u8]) -> Option<()> {
-    match body {
-        [first, ..] if *first != TURN => log.append(body).ok(),
-        _ => None,
-    }
-}
-
 // Adds commits of so many writes until the log is long enough; how many they are.
 fn add_commits<D: Disk>(alloc: Global, log: &mut Log<D>, writes: u32, from: u64) -> Option<u64> {
     let mut length = from;
@@ -109,7 +99,9 @@ fn add_commits<D: Disk>(alloc: Global, log: &mut Log<D>, writes: u32, from: u64)
         }
         let records = commit_records(alloc, seq, writes).ok()?;
         let body = put_records(alloc, records.as_slice()).ok()?;
-        add(log, body.as_slice())?;
+        if !add(log, body.as_slice()) {
+            return None;
+        }
         length = length.saturating_add(5).saturating_add(body.len());
         commits = commits.saturating_add(1);
     }
@@ -121,7 +113,9 @@ fn filled(alloc: Global, writes: u32) -> Option<LongLog> {
     let disk = MemDisk::blank(alloc, CAPACITY).ok()?;
     let (mut log, _frames) = Log::open(alloc, disk).ok()?;
     let body = put_records(alloc, first_records(alloc).ok()?.as_slice()).ok()?;
-    add(&mut log, body.as_slice())?;
+    if !add(&mut log, body.as_slice()) {
+        return None;
+    }
     let commits = add_commits(alloc, &mut log, writes, body.len())?;
     Some(LongLog { log, commits })
 }

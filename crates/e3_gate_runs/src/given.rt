@@ -2,7 +2,7 @@
 use crate::texts::{cut, number, without_space};
 use e3_disk::MemDisk;
 use e3_fleet::memory_disks;
-use e3_outside::{MemSink, MemSource, OpenGate};
+use e3_outside::{Gate, MemSink, MemSource, OpenGate};
 use e3_top::{Ended, run_within};
 use e3_types::List;
 use std::alloc::Global;
@@ -133,8 +133,13 @@ fn entries_of(given: &Given) -> u32 {
     }
 }
 
-/// The run; none without memory.
-pub fn played<R: Wait + Threads + Sync>(rt: &R, alloc: Global, given: &Given) -> Option<Ran> {
+/// The run behind a gate; none without memory.
+pub fn played_behind<G: Gate + Sync, R: Wait + Threads + Sync>(
+    rt: &R,
+    alloc: Global,
+    given: &Given,
+    gate: &G,
+) -> Option<Ran> {
     let words = words_of(alloc, given.value(b'w').unwrap_or(b"run"))?;
     let mut source = source_of(alloc, given)?;
     let mut sink = sink_of(alloc, given)?;
@@ -144,19 +149,15 @@ pub fn played<R: Wait + Threads + Sync>(rt: &R, alloc: Global, given: &Given) ->
         return None;
     };
     let most = entries_of(given).max(1).min(2_000_000);
-    let ended = run_within(
-        rt,
-        alloc,
-        &words,
-        &mut source,
-        &mut sink,
-        disks,
-        &OpenGate,
-        most,
-    );
+    let ended = run_within(rt, alloc, &words, &mut source, &mut sink, disks, gate, most);
     Some(Ran {
         ended,
         source,
         sink,
     })
+}
+
+/// The run with no gate in its way; none without memory.
+pub fn played<R: Wait + Threads + Sync>(rt: &R, alloc: Global, given: &Given) -> Option<Ran> {
+    played_behind(rt, alloc, given, &OpenGate)
 }

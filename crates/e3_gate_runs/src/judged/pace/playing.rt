@@ -1,14 +1,10 @@
 // A scenario that is played by so many threads, and its history judged.
-ghost use Rattle.e3_world.specs.Given.{IsGiven};
-
-use e3_disk::{Drill, MemDisk};
-use e3_fleet::{Played, memory_disks, play_over};
+use crate::judged::frames::open;
+use crate::playing::played_over;
+use e3_disk::MemDisk;
 use e3_judge::audit::audit;
-use e3_log::Log;
 use e3_outside::{Gate, Source, read_up_to};
 use e3_scenario::read_scenario;
-use e3_types::{List, Scenario};
-use e3_world::History;
 use std::alloc::Global;
 use std::sync::Wait;
 use std::sync::atomic::{AtomicU64, Ordering};
@@ -19,9 +15,6 @@ const BYTES: u64 = 4_194_304;
 
 /// The capacity of each disk, in bytes.
 const CAPACITY: u64 = 33_554_432;
-
-/// The most entries of a history.
-const MOST: u32 = 2_000_000;
 
 /// What is done with the history of a run, or its disks.
 #[derive(Clone, Copy)]
@@ -52,26 +45,9 @@ impl Gate for Counter {
     }
 }
 
-fn history_by<R: Wait + Threads + Sync>(
-    rt: &R,
-    alloc: Global,
-    scenario: &Scenario,
-    gate: &Counter,
-    threads: usize,
-    packets: u32,
-) -> Option<Played<MemDisk>>
-    requires { IsGiven scenario.now }
-{
-    let Ok(disks) = memory_disks(alloc, CAPACITY, 0, List::new(alloc)) else {
-        return None;
-    };
-    Some(play_over(rt, alloc, scenario, disks, gate, threads, packets, MOST))
-}
-
 // How many frames the log on this disk has; none where it is not read as a log.
-fn frames_on(alloc: Global, mut disk: MemDisk) -> Option<u64> {
-    disk.power_on();
-    match Log::open(alloc, disk) {
+fn frames_on(alloc: Global, disk: MemDisk) -> Option<u64> {
+    match open(alloc, disk) {
         Ok((_log, frames)) => Some(frames.len()),
         Err(_refused) => None,
     }
@@ -106,7 +82,7 @@ pub fn play<S: Source, R: Wait + Threads + Sync>(
     let gate = Counter {
         passed: AtomicU64::new(0),
     };
-    let played = history_by(rt, alloc, &scenario, &gate, threads, packets)?;
+    let played = played_over(rt, alloc, &scenario, CAPACITY, &gate, threads, packets)?;
     let (entries, turns) = (played.history.len(), gate.passed.load(Ordering::SeqCst));
     let frames = match behind {
         Behind::Nothing => None,

@@ -1,5 +1,5 @@
 // Damage: logs over a disk with some frames, of which one byte is changed, and over a disk that is blank but for some bytes.
-use crate::standing::open;
+use crate::judged::frames::{add, open};
 use crate::texts::{number, without_space};
 use e3_disk::{Disk, Drill, MemDisk};
 use e3_log::{Frame, Log, OpenCause};
@@ -8,9 +8,6 @@ use std::alloc::Global;
 
 // Room for the frames in the first half, which is the region that counts.
 const CAPACITY: u64 = 64;
-
-// The first byte of a body that a turn writes, and no append.
-const TURN: u8 = 7;
 
 // A number from 0 to 255.
 fn byte_of(word: &[u8]) -> u8 {
@@ -24,14 +21,6 @@ fn body_of(alloc: Global, words: &[u8]) -> Page {
         body.bytes(&[byte_of(word)]);
     }
     body
-}
-
-// Appends a body that may be one; whether that was done.
-fn add<D: Disk>(log: &mut Log<D>, body: &[u8]) -> bool {
-    match body {
-        [first, ..] if *first != TURN => log.append(body).is_ok(),
-        _ => false,
-    }
 }
 
 // Appends each of these bodies; whether all were.

@@ -1,6 +1,6 @@
 // What the judge says of runs.
 use crate::given::{Asked, Given, Ran, played};
-use crate::standing::count_standing;
+use crate::judged::standing::count_standing;
 use crate::texts::{cut, without_space};
 use e3_disk::MemDisk;
 use e3_judge::{is_whole, judge};
