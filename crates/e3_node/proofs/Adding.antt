@@ -8,7 +8,7 @@ use Rattle.e3_disk.specs.Meters.{Meters}
 use Rattle.e3_log.specs.Stands.{LogState}
 use Rattle.e3_node.specs.Batched.{HasNoMoreRoom, IsBatch, OnlyForMemory, first_of}
 use Rattle.e3_node.specs.Batches.{inputs_in, unnumbered_of, unnumbered_steps, stepped}
-use Rattle.e3_node.specs.Briefing.{BriefsAreTold, IsBriefOf}
+use Rattle.e3_node.specs.Briefing.{BriefsAreTold, HasBody, IsBriefOf}
 use Rattle.e3_node.specs.Drafts.{IsAsBefore, IsReady}
 use Rattle.e3_node.specs.Ends.{input_fault_of}
 use Rattle.e3_node.specs.Several.{claims_for}
@@ -34,7 +34,7 @@ use Rattle.e3_world.specs.declared.lives.Incarnation.{Incarnation}
 use Rattle.e3_world.specs.declared.lives.SiteStep.{SiteStep}
 use Rattle.e3_node.proofs.Batches.{unnumbered_push, records_push, stepped_push}
 use Rattle.e3_node.proofs.Bundles.{unnumbered_length, steps_log}
-use Rattle.e3_site_log.specs.Ends.{HasRoom, HasRoomUnlessShort, IsShortIf, MayTurn}
+use Rattle.e3_site_log.specs.Ends.{HasRoom, HasRoomUnlessShort, IsShortIf}
 use Rattle.e3_site_log.specs.declared.writing.Short.{Short}
 use Rattle.e3_site_log.proofs.Holding.{back_both}
 use Rattle.e3_node.proofs.Several.{claims_push}
@@ -87,11 +87,11 @@ short_first : (site : ℕ) (l : List Record) (new old : Option Short) → IsShor
 short_first site l None old one two = two
 short_first site l (Some s) old one two = one
 
-module _ {D : Type 0} (meters : D → Meters) (on_disk : LogState D) where
-  may_first : (new old : Option Short) → MayTurn on_disk new → MayTurn on_disk old → MayTurn on_disk (first_of new old)
-  may_first None old one two = two
-  may_first (Some s) old one two = one
+body_first : (new old : Option Short) → HasBody new → HasBody old → HasBody (first_of new old)
+body_first None old one two = two
+body_first (Some s) old one two = one
 
+module _ {D : Type 0} (meters : D → Meters) (on_disk : LogState D) where
   due_first : (l : List Record) (new old : Option Short) (size : ℕ) → (old ≡ None → HasRoomUnlessShort meters on_disk l new size) → HasRoomUnlessShort meters on_disk l (first_of new old) size
   due_first l None None size due = due refl
   due_first l None (Some s) size due = tt
@@ -116,7 +116,7 @@ module _ {D : Type 0} (meters : D → Meters) (on_disk : LogState D) where
       inputs = let P : ℕ → Type 0 = λ n. n ≤ first + length done in subst P (sym (ap (λ (v : SiteView). v.inputs) is.same)) was.inputs;
       claimed = same ∙ was.claimed;
       short = let P : Option Short → Type 0 = λ o. IsShortIf site (log_of sc h site) o in subst P (sym short) was.short;
-      may = let P : Option Short → Type 0 = λ o. MayTurn on_disk o in subst P (sym short) was.may;
+      body = subst HasBody (sym short) was.body;
       due = λ some.
           let P : Option Short → Type 0 = λ o. HasRoomUnlessShort meters on_disk (log_of sc h site) o (length c.body) in
           let Q : List ℕ → Type 0 = λ l. HasRoomUnlessShort meters on_disk (log_of sc h site) b.short (length l) in
@@ -170,10 +170,10 @@ module _ {D : Type 0} (meters : D → Meters) (on_disk : LogState D) where
         ((now : Incarnation) (input : Input) → SiteStands now t → d.plan.step ≡ planned_step now t input → SiteStands (with_step now d.plan.step) new) →
         new.weights ≡ t.weights → new.site ≡ t.site → new.inputs ≡ count_on t.inputs → step ≡ entry_of_plan site i made → outs ≡ length d.plan.step.outs →
         c.steps.items ≡ b.steps.items ++ step ∷ [] → c.records ≡ b.records ++ d.plan.step.records → c.body ≡ b.body ++ d.body → c.short ≡ first_of short b.short →
-        ((l : List Record) → (b.records ≡ [] → IsBriefOf t l) → IsShortIf t.site l short) → MayTurn on_disk short →
+        ((l : List Record) → (b.records ≡ [] → IsBriefOf t l) → IsShortIf t.site l short) → HasBody short →
         ((l : List Record) → (b.records ≡ [] → IsBriefOf t l) → c.records ≢ [] → b.short ≡ None → HasRoomUnlessShort meters on_disk l short (length c.body)) →
         then ≡ now ++ mark.Place site outs ∷ [] → IsBatch meters on_disk sc h site rose marks first (done ++ i ∷ []) c new then
-    batch_added b c s t new now then outs i d made step short was order told ready still made_is go weights number counted step_is outs_are steps records body shorts is_short may due claim = record {
+    batch_added b c s t new now then outs i d made step short was order told ready still made_is go weights number counted step_is outs_are steps records body shorts is_short has_body due claim = record {
       steps_are = steps ∙ ap (λ (l : List Entry). l ++ step ∷ []) was.steps_are ∙ ap (λ (x : Entry). unnumbered_steps sc h site done ++ x ∷ []) entry ∙ sym (unnumbered_push sc h site done i);
       records_are = records_now;
       body_is = body_with b s t now i d c.body was order ready body;
@@ -203,7 +203,7 @@ module _ {D : Type 0} (meters : D → Meters) (on_disk : LogState D) where
           let P : ℕ → Type 0 = λ n. IsShortIf n l short in
           let Q : Option Short → Type 0 = λ o. IsShortIf site l o in
           subst Q (sym shorts) (short_first site l short b.short (subst P there (is_short l brief)) was.short);
-      may = let P : Option Short → Type 0 = λ o. MayTurn on_disk o in subst P (sym shorts) (may_first short b.short may was.may);
+      body = subst HasBody (sym shorts) (body_first short b.short has_body was.body);
       due = λ some.
           let Q : Option Short → Type 0 = λ o. HasRoomUnlessShort meters on_disk l o (length c.body) in
           subst Q (sym shorts) (due_first l short b.short (length c.body) (due l brief (λ none. some (sym records_now ∙ none))));

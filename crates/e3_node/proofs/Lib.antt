@@ -12,6 +12,7 @@ pub mod Guarding
 pub mod Sharing
 pub mod Rises
 pub mod Risen
+pub mod Counts
 pub mod Strange
 pub mod Among
 pub mod Steps

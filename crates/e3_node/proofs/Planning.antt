@@ -8,7 +8,8 @@ use Rattle.e3_node.specs.Batches.{unnumbered_steps}
 use Rattle.e3_node.specs.Several.{AreOwned, claims_for, marks_in}
 use Rattle.e3_node.specs.Turns.{Meanwhile}
 use Rattle.e3_node.specs.declared.batching.Batch.{Batch}
-use Rattle.e3_site_log.specs.Ends.{HasRoom, IsShortIf, MayTurn, size_of}
+use Rattle.e3_site_log.specs.Ends.{HasRoom, IsShortIf, size_of}
+use Rattle.e3_node.specs.Briefing.{HasBody}
 use Rattle.e3_site_log.specs.declared.writing.Short.{Short}
 use Rattle.e3_node.specs.declared.fault.InputFault.{InputFault}
 use Rattle.e3_site.specs.SiteView.{SiteView}
@@ -48,7 +49,7 @@ no_batch meters on_disk sc h site rose marks batch s stands steps records body s
   inputs = omega arith;
   claimed = sym (append-nil marks);
   short = let P : Option Short → Type 0 = λ o. IsShortIf site (log_of sc h site) o in subst P (sym short) tt;
-  may = let P : Option Short → Type 0 = λ o. MayTurn on_disk o in subst P (sym short) tt;
+  body = subst HasBody (sym short) tt;
   due = λ some. absurd (some refl);
 }
 

@@ -28,7 +28,7 @@ use Rattle.e3_log.proofs.Unique.{one_text}
 use Rattle.e3_node.specs.Bodies.{DiskTells, IsRead, ReadsTold, entries_at, log_with, moves_with}
 use Rattle.e3_node.specs.Briefing.{IsReadBrief}
 use Rattle.e3_node.specs.Telling.{IsOfSite}
-use Rattle.e3_node.specs.Rising.{HasNotRaised, HasRaised, IsReady, MayRise, RiseMakes, born_by, raised_by, raised_of, records_by, rise_fall_of, rise_of}
+use Rattle.e3_node.specs.Rising.{HasHistory, HasNotRaised, HasRaised, IsReady, MayRise, RiseMakes, born_by, raised_by, raised_of, records_by, rise_fall_of, rise_of}
 use Rattle.e3_node.specs.declared.readying.Readied.{Readied}
 use Rattle.e3_node.specs.declared.readying.Unready.{Unready}
 use Rattle.e3_node.specs.declared.readying.Unready.TheVariants as unready
@@ -368,6 +368,17 @@ pub disk_within : {D : Type 0} (meaning : Meaning D) (sc : Scenario) (h : List E
     DiskTells sc h site (meaning.meters new).capacity logged (meaning.image new)
 disk_within meaning sc h site logged old new within same tells =
     subst (λ (c : ℕ). DiskTells sc h site c logged (meaning.image new)) (sym same) (λ bytes at. tells bytes (within bytes at))
+
+-- so does a history that the disk has
+pub history_within : {D : Type 0} (meaning : Meaning D) (wish : Wish) (logged : ℕ) (old new : D) → Within (meaning.image old) (meaning.image new) →
+    (meaning.meters new).capacity ≡ (meaning.meters old).capacity → HasHistory meaning wish logged old → HasHistory meaning wish logged new
+history_within meaning wish logged old new within same was = record {
+  scenario = was.scenario;
+  history = was.history;
+  may = was.may;
+  tells = disk_within meaning was.scenario was.history wish.site logged old new within same was.tells;
+  few = was.few;
+}
 
 -- what a log that could not be opened makes of a rise, where the disk is not damaged
 pub not_opened : {D : Type 0} (meaning : Meaning D) (sc : Scenario) (h : List Entry)

@@ -5,6 +5,7 @@ use Rattle.e3_codec.specs.Fields.{AllCanBeReadBack}
 use Rattle.e3_disk.specs.Meters.{Meters}
 use Rattle.e3_log.specs.Stands.{LogState}
 use Rattle.e3_node.specs.Batches.{FrameTakes, unnumbered_steps, stepped}
+use Rattle.e3_node.specs.Briefing.{HasBody}
 use Rattle.e3_node.specs.Several.{claims_for}
 use Rattle.e3_node.specs.Telling.{IsOfSite}
 use Rattle.e3_node.specs.declared.batching.Batch.{Batch}
@@ -13,7 +14,7 @@ use Rattle.e3_node.specs.declared.briefing.Room.TheVariants as room
 use Rattle.e3_node.specs.declared.fault.InputFault.{InputFault}
 use Rattle.e3_node.specs.declared.fault.InputFault.TheVariants as input_fault
 use Rattle.e3_site.specs.SiteView.{SiteView}
-use Rattle.e3_site_log.specs.Ends.{HasRoom, HasRoomUnlessShort, IsShortIf, MayTurn, size_of}
+use Rattle.e3_site_log.specs.Ends.{HasRoom, HasRoomUnlessShort, IsShortIf, size_of}
 use Rattle.e3_site_log.specs.declared.writing.Short.{Short}
 use Rattle.e3_site.specs.StandsAlike.{StandsAlike}
 use Rattle.e3_turn.specs.Passes.{GrewByOthers}
@@ -64,7 +65,7 @@ pub record IsBatch {D : Type 0} (meters : D → Meters) (on_disk : LogState D) (
   pub inputs : s.inputs ≤ first + length done
   pub claimed : now ≡ marks ++ claims_for (unnumbered_steps sc history site done)
   pub short : IsShortIf site (log_of sc history site) batch.short
-  pub may : MayTurn on_disk batch.short
+  pub body : HasBody batch.short
   pub due : records_by sc history site done ≢ [] → HasRoomUnlessShort meters on_disk (log_of sc history site) batch.short (length batch.body)
 
 -- want of memory is the only refusal

@@ -1,5 +1,5 @@
 -- Of which logs a site of the program, or records, tell the brief; and how many bytes packets may want.
-use Rattle.std.specs.Prelude.{◌≡◌, ◌≢◌, ◌+◌, ◌*◌, [], ℕ, List, length, fold}
+use Rattle.std.specs.Prelude.{◌≡◌, ◌≢◌, ◌<◌, ◌+◌, ◌*◌, [], ℕ, List, Option, Some, None, length, fold}
 use Rattle.std.specs.List.{AllByRecursion as Each}
 use Rattle.e3_world.specs.Brief.{brief, txns_of}
 use Rattle.e3_world.specs.Transactions.{IsFoundByBits}
@@ -10,6 +10,7 @@ use Rattle.e3_places.specs.Keeping.{claims_at, txn_id}
 use Rattle.e3_site.specs.SiteView.{SiteView, Stands}
 use Rattle.e3_site.specs.Tables.{IsInOrder}
 use Rattle.e3_site_log.specs.Bodies.{counted}
+use Rattle.e3_site_log.specs.declared.writing.Short.{Short}
 use Rattle.e3_types.specs.declared.entries.Entry.{Entry}
 use Rattle.e3_types.specs.declared.entries.Input.{Input}
 use Rattle.e3_types.specs.declared.entries.Input.TheVariants as input
@@ -44,6 +45,11 @@ pub record IsReadBrief (site : ℕ) (read log : List Record) : Type 0 where
   pub log_orderly : IsOrderly site log
   pub known : Each IsFoundByBits (txns_of read)
   pub own : Each (IsOfSite site) (brief log)
+
+-- a short log has a body, where there is one
+abbrev pub HasBody : Option Short → Type 0
+HasBody None = Unit {0}
+HasBody (Some short) = 0 < length short.body
 
 -- how many operations of a transaction stand at a site
 abbrev pub asked_of : SiteView → Txn → ℕ

@@ -94,6 +94,11 @@ pub record IsDisordered (wish : Wish) (bodies : List (List ℕ)) : Type 0 where
 abbrev pub IsForeign : Wish → List (List ℕ) → Type 0
 IsForeign wish bodies = SomeIsBad wish.site bodies ⊎ IsDisordered wish bodies
 
+-- whatever records of the site these bodies spell, 32 bits count the incarnation behind them
+abbrev pub NextIsCounted : ℕ → List (List ℕ) → Type 0
+NextIsCounted site bodies =
+    (read : List Record) → AllCanBeReadBack site read → flat_map (λ body. body) bodies ≡ spelling read → suc (logged_inc read) < 2 ^ 32
+
 -- In this history the site may rise, and it has these weights and first rows.
 pub record MayRise (sc : Scenario) (history : List Entry) (wish : Wish) : Type 0 where
   pub given : IsGiven sc
@@ -102,6 +107,14 @@ pub record MayRise (sc : Scenario) (history : List Entry) (wish : Wish) : Type 0
   pub some : 1 ≤ wish.site
   pub weights_are : wish.weights ≡ sc.weights
   pub rows_are : wish.rows ≡ rows_at wish.site sc.rows
+
+-- The disk has a history, of which it tells by so many records. The site may rise in it, and 32 bits count one entry more.
+pub record HasHistory {D : Type 0} (meaning : Meaning D) (wish : Wish) (logged : ℕ) (disk : D) : Type 0 where
+  pub scenario : Scenario
+  pub history : List Entry
+  pub may : MayRise scenario history wish
+  pub tells : DiskTells scenario history wish.site (meaning.meters disk).capacity logged (meaning.image disk)
+  pub few : suc (length history) < 2 ^ 32
 
 -- the entry of a rise, and of a failed one
 abbrev pub rise_of : ℕ → Bool → ℕ → Entry

@@ -4,11 +4,11 @@ ghost use Rattle.std.specs.List.{AllByRecursion as Each};
 ghost use Rattle.e3_world.specs.Brief.{brief};
 ghost use Rattle.e3_world.specs.Orderly.{IsOrderly};
 ghost use Rattle.e3_node.specs.Batched.{IfReady};
-ghost use Rattle.e3_node.specs.Briefing.{IsBriefOf, IsReadBrief, asked_of, spare_for, spare_of};
+ghost use Rattle.e3_node.specs.Briefing.{HasBody, IsBriefOf, IsReadBrief, asked_of, spare_for, spare_of};
 ghost use Rattle.e3_node.specs.declared.briefing.Room.TheVariants as room;
 ghost use Rattle.e3_node.specs.Telling.{IsOfSite};
 ghost use Rattle.e3_node.specs.declared.readying.Unready.TheVariants as unready;
-ghost use Rattle.e3_site_log.specs.Ends.{HasRoom, HasRoomUnlessShort, IsShortIf, MayTurn};
+ghost use Rattle.e3_site_log.specs.Ends.{HasRoom, HasRoomUnlessShort, IsShortIf};
 ghost use Rattle.e3_site_log.specs.declared.writing.Short.{Short as Shorts};
 ghost use Rattle.e3_types.specs.declared.records.Record.{Record as Records};
 
@@ -24,19 +24,12 @@ use e3_site_log::Short;
 use e3_types::{Input, List, Message, NoMemory, Record, Txn};
 use std::alloc::Global;
 
-// A short log of these records, where there are any and 32 bits count one turn more.
-fn short_of<D: Disk>(
-    alloc: Global,
-    log: &Log<D>,
-    records: &[Record],
-) -> Result<Option<Short>, NoMemory>
+// A short log of these records, where there are any.
+fn short_of(alloc: Global, records: &[Record]) -> Result<Option<Short>, NoMemory>
     ensures short { (site : ℕ) (l : Items Records) → records.now ≡ brief l → l ≢ [] → Each (IsOfSite site) (brief l) → IfOk result (IsShortIf site l) }
     ensures none { IfOk result (λ s. s ≡ None → records.now ≡ []) }
-    ensures may { IfOk result (MayTurn log.now) }
+    ensures body { IfOk result HasBody }
 {
-    if log.generation() == u32::MAX {
-        return Err(NoMemory);
-    }
     if records.is_empty() {
         return Ok(None);
     }
@@ -57,13 +50,13 @@ pub(crate) fn shorten<D: Disk>(
     ensures due { (l : Items Records) → IsBriefOf site.now l → log.now.failed ≡ false → records.now ≢ [] →
         IfOk result (λ s. HasRoomUnlessShort D.meaning.meters log.now l s len) }
     ensures needed { IfOk result (λ s. IsSome s → (records.now ≢ []) × (HasRoom D.meaning.meters log.now len → ⊥)) }
-    ensures may { IfOk result (MayTurn log.now) }
+    ensures body { IfOk result HasBody }
 {
     if records.is_empty() || log.fits(len) {
         return Ok(None);
     }
     let records = of_site(alloc, site)?;
-    short_of(alloc, log, records.as_slice())
+    short_of(alloc, records.as_slice())
 }
 
 // The brief of the records that a rise read. It is taken of a site that rose with them, since that is quick.
@@ -91,7 +84,7 @@ pub(crate) fn shorten_read<D: Disk>(
     ensures due { (l : Items Records) → IsReadBrief wish.now.site (take rise.now.read rise.now.rose) l → log.now.failed ≡ false →
         IfOk result (λ s. HasRoomUnlessShort D.meaning.meters log.now l s (length rise.now.body)) }
     ensures needed { IfOk result (λ s. IsSome s → (rise.now.read ≢ 0) × (HasRoom D.meaning.meters log.now (length rise.now.body) → ⊥)) }
-    ensures may { IfOk result (MayTurn log.now) }
+    ensures body { IfOk result HasBody }
     ensures never { IsOrderly wish.now.site (take rise.now.read rise.now.rose) → result ≡ Err unready.Foreign → ⊥ }
 {
     if rise.read == 0 || log.fits(rise.body.len()) {
@@ -99,7 +92,7 @@ pub(crate) fn shorten_read<D: Disk>(
     }
     let read = &rise.rose.as_slice()[..rise.read as usize];
     let records = brief_read(wish.alloc, wish.site, read)?;
-    Ok(short_of(wish.alloc, log, records.as_slice())?)
+    Ok(short_of(wish.alloc, records.as_slice())?)
 }
 
 // How many operations of a transaction stand at a site.
@@ -164,7 +157,7 @@ pub(crate) fn shorten_batch<D: Disk>(
     ensures short { (l : Items Records) → (batch.now.records ≡ [] → IsBriefOf site.now l) → IfOk result (λ r. IfReady r (IsShortIf site.now.site l)) }
     ensures due { (l : Items Records) → (batch.now.records ≡ [] → IsBriefOf site.now l) → log.now.failed ≡ false → records.now ≢ [] →
         batch.now.short ≡ None → IfOk result (λ r. IfReady r (λ s. HasRoomUnlessShort D.meaning.meters log.now l s len)) }
-    ensures may { IfOk result (λ r. IfReady r (MayTurn log.now)) }
+    ensures body { IfOk result (λ r. IfReady r HasBody) }
     ensures none { (s : Shorts) → batch.now.short ≡ Given s → result ≡ Ok (room.Ready None) }
     ensures full { IfOk result (λ r. r ≡ room.Full → (batch.now.records ≢ []) × (batch.now.short ≡ None) × (HasRoom D.meaning.meters log.now len → ⊥)) }
 {

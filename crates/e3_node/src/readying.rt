@@ -1,7 +1,7 @@
 // A rise that is ready to be made.
-ghost use Rattle.std.specs.Prelude.{◌≡◌, ◌<◌, suc, length, Err, IfOk};
+ghost use Rattle.std.specs.Prelude.{◌≡◌, ◌<◌, ◌^◌, suc, length, Err, IfOk};
 ghost use Rattle.e3_log.specs.Found.{bodies_of};
-ghost use Rattle.e3_node.specs.Rising.{IsForeign, IsReady, IsWish, born_by, records_by};
+ghost use Rattle.e3_node.specs.Rising.{IsForeign, IsReady, IsWish, NextIsCounted, born_by, records_by};
 ghost use Rattle.e3_node.specs.declared.readying.Unready.TheVariants as unready;
 ghost use Rattle.e3_site.specs.Rebuilt.{IsRebuilt, StandsForEach};
 ghost use Rattle.e3_world.specs.Logs.{logged_inc};
@@ -40,7 +40,7 @@ pub(crate) struct Readied {
 /// Why no rise is ready.
 #[derive(Clone, Copy)]
 pub(crate) enum Unready {
-    /// There was no memory, or 32 bits count no further incarnation.
+    /// There was no memory.
     NoMemory,
     /// What is on the disk is not the log of the site. It comes of no disk that stands for a history.
     Foreign,
@@ -89,15 +89,12 @@ fn birth_of(wish: &Wish, log: &[Record]) -> Result<List<Record>, NoMemory>
     Ok(records)
 }
 
-// The incarnation behind this log, where 32 bits count it.
-fn next_inc(log: &[Record]) -> Result<u32, NoMemory>
-    ensures { IfOk result (λ inc. inc ≡ suc (logged_inc log.now)) }
+// The incarnation behind this log. A site has no more of them than it has entries, so 32 bits count it.
+fn next_inc(log: &[Record]) -> u32
+    requires { suc (logged_inc log.now) < 2 ^ 32 }
+    ensures { result ≡ suc (logged_inc log.now) }
 {
-    let last = logged_inc(log);
-    if last == u32::MAX {
-        return Err(NoMemory);
-    }
-    Ok(last + 1)
+    logged_inc(log) + 1
 }
 
 // The records of the rise behind this log.
@@ -127,13 +124,14 @@ pub(crate) fn rebuilt(alloc: Global, site: u32, log: &[Record]) -> Result<Site, 
 /// The rise of a site whose disk has these frames. What is read is kept, all of it: more records than so many are the log and
 /// those that were in doubt.
 pub(crate) fn ready(wish: &Wish, logged: u64, frames: &[Frame]) -> Result<Readied, Unready>
+    requires { NextIsCounted wish.now.site (bodies_of frames.now) }
     ensures ready { IfOk result (IsReady wish.now logged (bodies_of frames.now)) }
     ensures foreign { result ≡ Err unready.Foreign → IsForeign wish.now (bodies_of frames.now) }
 {
     let mut log = read_frames(wish.alloc, wish.site, frames)?;
     let read = log.len();
     let kept = logged < read;
-    let inc = next_inc(log.as_slice())?;
+    let inc = next_inc(log.as_slice());
     let records = records_by(wish, inc, log.as_slice())?;
     let body = spelled(wish.alloc, records.as_slice())?;
     log.add_copies(wish.alloc, records.as_slice())?;

@@ -4,11 +4,11 @@ ghost use Rattle.e3_disk.specs.Meters.{Keeps};
 ghost use Rattle.e3_log.specs.Found.{bodies_of};
 ghost use Rattle.e3_log.specs.Stands.{Stands};
 ghost use Rattle.e3_node.specs.Bodies.{DiskTells, log_with};
-ghost use Rattle.e3_node.specs.NodeStands.{IsFallen};
+ghost use Rattle.e3_node.specs.NodeStands.{IsFallen, logged_in};
 ghost use Rattle.e3_node.specs.NodeView.{disk_of, is_up_in};
 ghost use Rattle.e3_node.specs.declared.readying.Wish.{Wish as Wishes};
 ghost use Rattle.e3_node.specs.declared.rising.Raised.TheVariants as raises;
-ghost use Rattle.e3_node.specs.Rising.{IsAllowed, IsReady, MayRise, RiseIsEntered, RiseMakes, RiseOver, RiseTakes, raised_by, raised_of, told_of};
+ghost use Rattle.e3_node.specs.Rising.{HasHistory, IsAllowed, IsReady, MayRise, RiseIsEntered, RiseMakes, RiseOver, RiseTakes, raised_by, raised_of, told_of};
 ghost use Rattle.e3_site_log.specs.Ends.{HasRoomUnlessShort, IsShortIf, MayTurn};
 ghost use Rattle.e3_node.specs.SharedStands.{IsClaimed};
 ghost use Rattle.e3_types.specs.Spelling.{spelling};
@@ -105,6 +105,7 @@ fn shorten_and_log<D: Disk + Drop>(
 ) -> (State<D>, Raised)
     requires lit { (D.meaning.meters log.disk).powered ≡ true }
     requires ready { (bodies : Items (Items ℕ)) × IsReady wish.now logged bodies rise × Stands D.meaning bodies log }
+    requires history { HasHistory D.meaning wish.now logged log.disk }
     ensures makes { RiseOver D.meaning wish.now logged log.disk result.0 result.1 }
     ensures keeps { Keeps (D.meaning.meters log.disk) (D.meaning.meters (disk_of result.0)) }
     ensures takes { RiseTakes 4 result.1 (D.meaning.meters log.disk) (D.meaning.meters (disk_of result.0)) }
@@ -125,6 +126,7 @@ fn rise_over<D: Disk + Drop>(
 ) -> (State<D>, Raised)
     requires stands { Stands D.meaning (bodies_of frames.now) log }
     requires lit { (D.meaning.meters log.disk).powered ≡ true }
+    requires history { HasHistory D.meaning wish.now logged log.disk }
     ensures makes { RiseOver D.meaning wish.now logged log.disk result.0 result.1 }
     ensures keeps { Keeps (D.meaning.meters log.disk) (D.meaning.meters (disk_of result.0)) }
     ensures takes { RiseTakes 4 result.1 (D.meaning.meters log.disk) (D.meaning.meters (disk_of result.0)) }
@@ -139,6 +141,7 @@ fn rise_over<D: Disk + Drop>(
 // The log is read. Its sync is one call of an arm.
 fn open<D: Disk + Drop>(disk: D, logged: u64, wish: &Wish) -> (State<D>, Raised)
     requires lit { (D.meaning.meters disk).powered ≡ true }
+    requires history { HasHistory D.meaning wish.now logged disk }
     ensures makes { RiseOver D.meaning wish.now logged disk result.0 result.1 }
     ensures keeps { Keeps (D.meaning.meters disk) (D.meaning.meters (disk_of result.0)) }
     ensures takes { RiseTakes 5 result.1 (D.meaning.meters disk) (D.meaning.meters (disk_of result.0)) }
@@ -151,6 +154,7 @@ fn open<D: Disk + Drop>(disk: D, logged: u64, wish: &Wish) -> (State<D>, Raised)
 
 // The disk has power from here on.
 fn raise<D: Disk + Drill + Drop>(mut disk: D, logged: u64, wish: &Wish) -> (State<D>, Raised)
+    requires history { HasHistory D.meaning wish.now logged disk }
     ensures makes { RiseOver D.meaning wish.now logged disk result.0 result.1 }
     ensures keeps { Keeps (D.meaning.meters disk) (D.meaning.meters (disk_of result.0)) }
     ensures takes { RiseTakes 5 result.1 (D.meaning.meters disk) (D.meaning.meters (disk_of result.0)) }
@@ -162,6 +166,7 @@ fn raise<D: Disk + Drill + Drop>(mut disk: D, logged: u64, wish: &Wish) -> (Stat
 /// What a rise makes of a site that is down, over its disk.
 pub(crate) fn risen<D: Disk + Drill + Drop>(state: State<D>, wish: Wish) -> (State<D>, Raised)
     requires down { is_up_in state ≡ false }
+    requires history { HasHistory D.meaning wish (logged_in state) (disk_of state) }
     ensures makes { (sc : Scenario) (h : Items Entries) → MayRise sc h wish → IsFallen D.meaning sc h wish.site state →
         RiseMakes D.meaning sc h wish.site (disk_of state) result.0 result.1 }
     ensures keeps { Keeps (D.meaning.meters (disk_of state)) (D.meaning.meters (disk_of result.0)) }

@@ -53,6 +53,7 @@ played_on sc most rest more o w was low is few = record {
   given = was.given;
   legal = subst (IsLegal sc) (sym (same_entries o w (mark.Start sc most ∷ rest) more is)) was.legal;
   within = within;
+  few = was.few;
 }
   where
     within : used_of ((mark.Start sc most ∷ rest) ++ more) ≤ most
@@ -91,7 +92,6 @@ kept_on sc most es ms new net notes places room spare hr sr nr o w more places2 
     played = played_on sc most (marks_of es ms) more o w was.stands.played low is few;
     net = subst (λ h. NetStands sc h net) (sym (same_entries o w M more is)) was.stands.net;
   }));
-  few = was.few;
   whole = was.whole ∙ sym count;
   notes_are = (let P : List Mark → Type 0 = λ l. AreNotes last l (set notes o w) in subst P (sym marks_are) (sets last o M (M ++ more) notes w low was.notes_are is.own is.others));
   places_are = (let P : List Mark → Type 0 = λ l. places2 ≡ promised last l in

@@ -34,7 +34,7 @@ pub few_are : (sc : Scenario) (most : ℕ) (es : List Entry) (ms : List Stored) 
 few_are sc most es ms net notes places room spare hr sr nr was =
     let used = used_is sc most es ms was.whole in
     let p = was.places_are in
-    let few = was.few in
+    let few : most < 2 ^ 32 = was.stands.played.few in
     let within : used_of (marks_from sc most es ms) ≤ most = was.stands.played.within in
     (omega (arith, used, p, within, few), omega (arith, used, p, within, few))
 
@@ -66,10 +66,9 @@ pub opened : (sc : Scenario) (most hr sr nr : ℕ) (notes : List Note) → IsGiv
     IsKept sc most [] [] (fresh (length sc.weights) sc.luck sc.loss sc.repeat) notes 0 0 0 hr sr nr
 opened sc most hr sr nr notes given few noted = record {
   stands = record {
-    played = record { given = given; legal = tt; within = (let none = none_promised (length sc.weights) in omega (arith, none)) };
+    played = record { given = given; legal = tt; within = (let none = none_promised (length sc.weights) in omega (arith, none)); few = few };
     net = fresh_stands sc;
   };
-  few = few;
   whole = refl;
   notes_are = first_notes sc most (length sc.weights) notes noted;
   places_are = sym (none_promised (length sc.weights));

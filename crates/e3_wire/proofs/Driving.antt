@@ -51,10 +51,9 @@ pub own_entered : (sc : Scenario) (most : ℕ) (es : List Entry) (ms : List Stor
     IsKept sc most (es ++ record { owner = 0; act = act } ∷ []) (ms ++ stored.Entered ∷ []) net2 notes places room spare2 hr2 sr2 nr2
 own_entered sc most es ms net notes places room spare hr sr nr net2 act spare2 hr2 sr2 nr2 was free guard stands_net count few for_entries spare_is for_marks for_packets = record {
   stands = subst (λ (l : List Mark). WireStands l net2) (sym marks_are) (record {
-    played = record { given = was.stands.played.given; legal = subst (IsLegal sc) (sym same) (legal_push sc h e was.stands.played.legal guard); within = within };
+    played = record { given = was.stands.played.given; legal = subst (IsLegal sc) (sym same) (legal_push sc h e was.stands.played.legal guard); within = within; few = was.stands.played.few };
     net = subst (λ k. NetStands sc k net2) (sym same) stands_net;
   });
-  few = was.few;
   whole = length-append es (e ∷ []) ∙ (let one : length es + 1 ≡ suc (count_stored ms) = (let w = was.whole in omega (arith, w)) in one) ∙ sym (count_entry ms);
   notes_are = rw marks_are (notes_still last M (mark.Entered e) notes was.notes_are (free_note act free));
   places_are = rw marks_are (was.places_are ∙ sym places_still);

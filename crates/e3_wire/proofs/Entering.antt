@@ -149,6 +149,7 @@ entry_keeps sc most rest net e was may = record {
     given = was.played.given;
     legal = subst (IsLegal sc) (sym same) (legal_push sc h y was.played.legal may.allowed);
     within = within;
+    few = was.played.few;
   };
   net = subst (λ k. NetStands sc k (sends_all (behind_inputs net (inputs_of e.act)) (outs_of e.act))) (sym same) (net_on sc h net e.owner e.act may.site was.net may.allowed may.takes);
 }
@@ -212,7 +213,6 @@ entered sc most es ms net notes places room spare hr sr nr e was may = record {
   marks = marks_are;
   kept = λ hr2 nr2 left packets. record {
     stands = stands;
-    few = was.few;
     whole = length-append es (x ∷ []) ∙ (let one : length es + 1 ≡ suc (count_stored ms) = (let w = was.whole in omega (arith, w)) in one) ∙ sym (count_entry ms);
     notes_are = rw marks_are all_noted;
     places_are = rw marks_are (let f = was.places_are in omega (arith, less_places, f));

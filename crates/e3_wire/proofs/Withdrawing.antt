@@ -101,10 +101,10 @@ withdrawn sc most es ms front net notes places room spare hr sr nr o n was is lo
         given = kept.stands.played.given;
         legal = subst (IsLegal sc) same there.played.legal;
         within = within;
+        few = kept.stands.played.few;
       };
       net = subst (λ h. NetStands sc h net) same there.net;
     };
-    few = kept.few;
     whole = kept.whole ∙ count_place front o n;
     notes_are = notes_withdrawn last o n M notes _ low (let P : List Mark → Type 0 = λ l. AreNotes last l notes in subst P marks_are kept.notes_are) refl;
     places_are = (let f = places_were in omega (arith, f, moved_places, places_more));

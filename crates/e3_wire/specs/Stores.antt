@@ -40,7 +40,6 @@ pub record AreNotes (last : ℕ) (marks : List Mark) (notes : List Note) : Type 
 pub record IsKept (sc : Scenario) (most : ℕ) (es : List Entry) (ms : List Stored) (net : Traffic) (notes : List Note)
     (places room spare history_room stored_room net_room : ℕ) : Type 0 where
   pub stands : WireStands (marks_from sc most es ms) net
-  pub few : most < 2 ^ 32
   pub whole : length es ≡ count_stored ms
   pub notes_are : AreNotes (length sc.weights) (marks_from sc most es ms) notes
   pub places_are : places ≡ promised (length sc.weights) (marks_from sc most es ms)

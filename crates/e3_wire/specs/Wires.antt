@@ -1,5 +1,5 @@
 -- What is always true of the marks, and what an entry asks of them.
-use Rattle.std.specs.Prelude.{◌≡◌, ◌≢◌, ◌≤◌, ◌-◌, ◌↔◌, ◌∷◌, [], ◌++◌, ℕ, true, List, length, min, take, Option, Some, None, Result, Err, OnOk, OnErr}
+use Rattle.std.specs.Prelude.{◌≡◌, ◌≢◌, ◌<◌, ◌≤◌, ◌-◌, ◌^◌, ◌↔◌, ◌∷◌, [], ◌++◌, ℕ, true, List, length, min, take, Option, Some, None, Result, Err, OnOk, OnErr}
 use Rattle.e3_types.specs.declared.entries.Act.{Act}
 use Rattle.e3_types.specs.declared.entries.Act.TheVariants.{Drop, Step}
 use Rattle.e3_types.specs.declared.entries.Entry.{Entry}
@@ -22,11 +22,12 @@ use Rattle.e3_wire.specs.declared.marks.Mark.TheVariants as mark
 use Rattle.e3_wire.specs.Marks.{entries_of, last_owner, most_of, note_of, scenario_of, used_of}
 
 -- The scenario of the marks keeps the rules, their history is legal for it, and with the promised places it is no longer
--- than it may be.
+-- than it may be, which 32 bits count.
 pub record IsPlayed (marks : List Mark) : Type 0 where
   pub given : IsGiven (scenario_of marks)
   pub legal : IsLegal (scenario_of marks) (entries_of marks)
   pub within : used_of marks ≤ most_of marks
+  pub few : most_of marks < 2 ^ 32
 
 -- and the network stands for the history
 pub record WireStands (marks : List Mark) (traffic : Traffic) : Type 0 where

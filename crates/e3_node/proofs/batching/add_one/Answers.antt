@@ -7,9 +7,10 @@ use Rattle.e3_types.specs.declared.entries.Input.{Input}
 use Rattle.e3_types.specs.declared.records.Record.{Record}
 use Rattle.e3_wire.specs.Marks.{last_owner, most_of, used_of}
 use Rattle.e3_wire.specs.declared.marks.Mark.TheVariants as mark
-use Rattle.e3_site_log.specs.Ends.{HasRoom, HasRoomUnlessShort, IsShortIf, MayTurn}
+use Rattle.e3_site_log.specs.Ends.{HasRoom, HasRoomUnlessShort, IsShortIf}
 use Rattle.e3_site_log.specs.declared.writing.Short.{Short}
 use Rattle.e3_node.specs.Batched.{IfReady}
+use Rattle.e3_node.specs.Briefing.{HasBody}
 use Rattle.e3_node.specs.declared.briefing.Room.{Room}
 use Rattle.e3_node.specs.declared.briefing.Room.TheVariants.{Full}
 use Rattle.e3_wire.specs.declared.fault.WireFault.{WireFault}
@@ -33,7 +34,7 @@ returns-clause-added g c = λ yes.
     (ap (λ (b : Batch). b.records) c.set_short.ensures ∙ c.in_ok-records.ensures ∙ ap (λ (l : List Record). l ++ c.records.result.now) c.as_slice.ensures ∙ ap (λ (l : List Record). c.args.batch.now.records ++ l) c.records.ensures)
     (ap (λ (b : Batch). b.body) c.set_short.ensures ∙ c.in_ok-body.ensures ∙ ap (λ (l : List ℕ). l ++ c.as_slice-3.result.now) c.as_slice-2.ensures ∙ ap (λ (l : List ℕ). c.args.batch.now.body ++ l) c.as_slice-3.ensures)
     (ap (λ (b : Batch). b.short) c.set_short.ensures)
-    (λ l brief. ready (IsShortIf c.planned.new.site.site l) (c.in_ok-short.ensures.short l brief)) (ready (MayTurn c.args.log.now) c.in_ok-short.ensures.may)
+    (λ l brief. ready (IsShortIf c.planned.new.site.site l) (c.in_ok-short.ensures.short l brief)) (ready HasBody c.in_ok-short.ensures.body)
     (λ l brief some none.
     let D : ℕ → Type 0 = λ n. HasRoomUnlessShort g.D.Disk.meaning.meters c.args.log.now l c.in-Ready.short n in
     let size : c.len.result ≡ length c.set_short.new.batch.body = c.len.ensures ∙ sym (ap (λ (b : Batch). length b.body) c.set_short.ensures) in

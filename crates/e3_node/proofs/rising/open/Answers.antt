@@ -6,9 +6,17 @@ use Rattle.e3_node.specs.declared.rising.Raised.{Raised}
 use Rattle.e3_node.specs.declared.state.State.TheVariants.{Down}
 use Rattle.e3_node.specs.Bodies.{entries_at}
 use Rattle.e3_world.specs.Moves.{moves_of, open_tail}
-use Rattle.e3_node.proofs.Rises.{disk_within, makes_since, not_opened}
+use Rattle.e3_node.proofs.Rises.{disk_within, history_within, makes_since, not_opened}
 use Rattle.e3_node.proofs.Strange.{reads_some}
 use Rattle.e3_node.proofs.rising.open.Goals as goal
+
+pub rise_over-requires-clause-history : goal.rise_over-requires-clause-history
+rise_over-requires-clause-history g c =
+    let old = c.args.disk in
+    let mid = c.in-Ok.log.disk in
+    let images : Within (g.D.Disk.meaning.image old) (g.D.Disk.meaning.image mid) = search rules in
+    let keeps : Keeps (g.D.Disk.meaning.meters old) (g.D.Disk.meaning.meters mid) = search rules in
+    history_within g.D.Disk.meaning c.args.wish.now c.args.logged old mid images keeps.capacity c.requires.history
 
 pub returns-in-Ok-clause-makes : goal.returns-in-Ok-clause-makes
 returns-in-Ok-clause-makes g c = λ sc h may holds.

@@ -7,7 +7,8 @@ use Rattle.e3_node.specs.declared.readying.Unready.{Unready}
 use Rattle.e3_node.specs.declared.rising.Raised.{Raised}
 use Rattle.e3_node.specs.declared.state.State.TheVariants.{Down}
 use Rattle.e3_types.specs.declared.records.Record.{Record}
-use Rattle.e3_node.proofs.Rises.{read_brief, read_front, ready_some, unshortened}
+use Rattle.e3_node.proofs.Counts.{may_turn}
+use Rattle.e3_node.proofs.Rises.{read_brief, read_front, ready_some, unshortened, was_logged}
 use Rattle.e3_node.proofs.rising.shorten_and_log.Goals as goal
 
 pub log_rise-requires-clause-some : goal.log_rise-requires-clause-some
@@ -15,6 +16,14 @@ log_rise-requires-clause-some g c = ready_some c.args.wish.now c.args.logged c.r
 
 pub log_rise-requires-clause-spelled : goal.log_rise-requires-clause-spelled
 log_rise-requires-clause-spelled g c = c.requires.ready.1.body_is
+
+pub log_rise-requires-clause-may : goal.log_rise-requires-clause-may
+log_rise-requires-clause-may g c =
+    let wish = c.args.wish.now in
+    let from = c.requires.history in
+    let at = g.met.D.Disk.reads_an_image c.args.log.disk in
+    let was = was_logged g.D.Disk.meaning c.logs_are_sound.ensures.orderly c.logs_are_sound.ensures.sets c.logs_are_sound.ensures.sound from.scenario from.history wish c.args.logged c.requires.ready.0 c.args.rise c.args.log from.may c.requires.ready.1 c.requires.ready.2 from.tells at in
+    may_turn g.D.Disk.meaning from.history wish.site (log_with from.scenario from.history wish.site c.args.rise.kept) c.args.rise.read c.args.log c.in-Ok.short was from.few c.in-Ok.ensures.body
 
 pub returns-in-Ok-clause-makes : goal.returns-in-Ok-clause-makes
 returns-in-Ok-clause-makes g c = λ sc h may tells.

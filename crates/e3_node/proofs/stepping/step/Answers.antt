@@ -19,6 +19,7 @@ use Rattle.e3_wire.specs.declared.fault.WireFault.TheVariants as wire_fault
 use Rattle.e3_world.specs.Legal.{made_by}
 use Rattle.e3_world.specs.Moves.{log_of}
 use Rattle.e3_world.specs.declared.lives.SiteStep.{SiteStep}
+use Rattle.e3_node.proofs.Counts.{may_turn, one_more_entry}
 use Rattle.e3_node.proofs.Framing.{one_frame}
 use Rattle.e3_node.proofs.Guarding.{first_takes_least}
 use Rattle.e3_node.proofs.Orders.{step_order}
@@ -35,6 +36,13 @@ no_fall wire_fault.NoMemory (Err fault) why is fell = cc
 
 pub prepare-requires : goal.prepare-requires
 prepare-requires g c = own_stands (scenario_of c.args.shared.now) (entries_of c.args.shared.now) c.args.number c.args.site.now c.requires.up.stands
+
+pub write-requires-clause-may : goal.write-requires-clause-may
+write-requires-clause-may g c =
+    let was = c.args.shared.now in
+    let h = entries_of was in
+    may_turn g.D.Disk.meaning h c.args.number (log_of (scenario_of was) h c.args.number) c.args.logged.now c.args.log.now c.in_ok-short.short c.requires.up.logged
+    (one_more_entry was (length h) c.requires.shared.stands.played (λ all. (let full = c.in_ok-claim.ensures.full.1 all in cc))) c.in_ok-short.ensures.body
 
 pub enter-requires-clause-may : goal.enter-requires-clause-may
 enter-requires-clause-may g c =

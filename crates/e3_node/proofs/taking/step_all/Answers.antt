@@ -1,4 +1,4 @@
-use Rattle.std.proofs.Common.{◌≡◌, ◌≢◌, ◌≤◌, ◌+◌, ◌++◌, ◌∷◌, [], ℕ, true, List, length, take, refl, sym, subst, ap, ◌∙◌}
+use Rattle.std.proofs.Common.{◌≡◌, ◌≢◌, ◌≤◌, ◌+◌, ◌++◌, ◌∷◌, [], ℕ, true, List, length, take, refl, sym, subst, ap, ◌∙◌, arith}
 use Rattle.e3_laws.specs.local.Others.{numbered_on}
 use Rattle.e3_site.specs.StandsAlike.{IsLogInOrder}
 use Rattle.e3_node.specs.Batched.{HasPlanned}
@@ -6,6 +6,7 @@ use Rattle.e3_node.specs.Batches.{stepped}
 use Rattle.e3_node.specs.Bodies.{entries_at}
 use Rattle.e3_node.specs.Briefing.{BriefsAreTold}
 use Rattle.e3_node.specs.Several.{AreOf, marks_in}
+use Rattle.e3_node.specs.Turns.{history_seen, scenario_seen}
 use Rattle.e3_site_log.specs.Bodies.{IsLogged, ReadsLeft}
 use Rattle.e3_site_log.specs.Ends.{IsBehind, IsPut, HasRoom, HasRoomUnlessShort, IsReason, Takes, calls_for, size_of}
 use Rattle.e3_turn.specs.Passes.{GrewByOthers, Owns, seen_by}
@@ -23,6 +24,7 @@ use Rattle.e3_world.specs.Moves.{log_of}
 use Rattle.e3_node.proofs.Bundles.{unnumbered_own}
 use Rattle.e3_node.proofs.Ended.{never_down}
 use Rattle.e3_node.proofs.BatchOrders.{batch_brief, batch_order}
+use Rattle.e3_node.proofs.Counts.{may_turn, promised_entry}
 use Rattle.e3_node.proofs.Results.{all_due, all_follow, alone, body_size, fall_end, fall_may, frame_seen, made, may_all_enter, note_fallen, note_stepped, steps_are, steps_end, turned, up_2, up_first, up_second}
 use Rattle.e3_node.proofs.Waiting.{still_owns}
 use Rattle.e3_node.proofs.Written.{Follows}
@@ -62,7 +64,13 @@ pub write-requires-clause-lit : goal.write-requires-clause-lit
 write-requires-clause-lit g c = c.requires.up.lit
 
 pub write-requires-clause-may : goal.write-requires-clause-may
-write-requires-clause-may g c = c.plan_all-planned.ensures.planned.made.may
+write-requires-clause-may g c =
+    let p = c.args.pass.now in
+    let h = history_seen p in
+    let any = c.requires.any in
+    let places = c.requires.places in
+    may_turn g.D.Disk.meaning h c.args.number (log_of (scenario_seen p) h c.args.number) c.args.logged.now c.args.log.now c.plan_all-planned.new.batch.short c.requires.up.logged
+    (promised_entry (seen_by p) c.args.number c.requires.turns.played c.requires.turns.exists (omega (arith, any, places))) c.plan_all-planned.ensures.planned.made.body
 
 pub write-requires-clause-spelled : goal.write-requires-clause-spelled
 write-requires-clause-spelled g c =

@@ -22,6 +22,7 @@ use Rattle.e3_wire.proofs.Claimed.{taken_is_due}
 use Rattle.e3_world.specs.Legal.{entry_of, made_by}
 use Rattle.e3_world.specs.Moves.{log_of}
 use Rattle.e3_world.specs.declared.lives.SiteStep.{SiteStep}
+use Rattle.e3_node.proofs.Counts.{claimed_entry, may_turn}
 use Rattle.e3_node.proofs.Framing.{one_frame}
 use Rattle.e3_node.proofs.Orders.{log_in_order}
 use Rattle.e3_node.proofs.Places.{entered_back, looked_back, still_back}
@@ -34,6 +35,14 @@ use Rattle.e3_node.proofs.turning.step_by_turns.Goals as goal
 
 pub prepare_by_turns-requires : goal.prepare_by_turns-requires
 prepare_by_turns-requires g c = own_stands (scenario_seen c.args.pass.now) (history_seen c.args.pass.now) c.args.number c.args.site.now c.requires.up.stands
+
+pub write-requires-clause-may : goal.write-requires-clause-may
+write-requires-clause-may g c =
+    let p = c.args.pass.now in
+    let h = history_seen p in
+    let cl = c.in_ok-claim.ensures.claimed in
+    may_turn g.D.Disk.meaning h c.args.number (log_of (scenario_seen p) h c.args.number) c.args.logged.now c.args.log.now c.in_ok-short.short c.requires.up.logged
+    (claimed_entry p c.args.number cl.0 c.requires.turns.owns cl.1 cl.5 (λ all. (let full = cl.4.1 all in cc))) c.in_ok-short.ensures.body
 
 pub commit_entry-requires-clause-owns : goal.commit_entry-requires-clause-owns
 commit_entry-requires-clause-owns g c =

@@ -1,9 +1,10 @@
-use Rattle.std.proofs.Common.{◌≡◌, ◌≤◌, ◌++◌, ℕ, ◌∙◌, ap, subst, sym, false}
+use Rattle.std.proofs.Common.{◌≡◌, ◌≤◌, ◌++◌, ℕ, ◌∙◌, ap, length, subst, sym, false}
 use Rattle.e3_node.specs.NodeStands.{IsFallen}
-use Rattle.e3_node.specs.NodeView.{NodeView, disk_of}
+use Rattle.e3_node.specs.NodeView.{NodeView, disk_of, is_up_in}
 use Rattle.e3_node.specs.Rising.{IsAllowed, IsWish, MayRise, RiseMakes, RiseIsEntered, RiseTakes, entered_by}
 use Rattle.e3_wire.specs.Marks.{entries_of, last_owner, scenario_of}
 use Rattle.e3_world.specs.Items.{is_up_at}
+use Rattle.e3_node.proofs.Counts.{one_more_entry}
 use Rattle.e3_node.proofs.Keeping.{told_in}
 use Rattle.e3_node.proofs.Risen.{allowed_of, failed_told, may_rise, missed_told, never_foreign_made, node_risen, rose_told, spared_told}
 use Rattle.e3_node.proofs.node.Node.rise.Goals as goal
@@ -11,6 +12,25 @@ use Rattle.e3_node.proofs.node.Node.rise.Goals as goal
 pub claim-requires-clause-exists : goal.claim-requires-clause-exists
 claim-requires-clause-exists g c =
     subst (λ (x : NodeView _). x.site ≤ last_owner c.args.shared.now) (sym c.self.view_is) c.requires.standing.exists
+
+pub replace_with-raised-requires : goal.replace_with-raised-requires
+replace_with-raised-requires g c =
+    let v = c.args.shared.now in
+    let sc = scenario_of v in
+    let h = entries_of v in
+    let node = c.args.self.now in
+    let wish = c.in_ok-wish.wish in
+    let down : is_up_at h node.site ≡ false = sym (c.if-is_up.ensures.stands sc h c.requires.standing) in
+    let is : IsWish node.site node.weights node.rows wish = subst (λ (x : NodeView _). IsWish x.site x.weights x.rows wish) c.self.view_is c.in_ok-wish.ensures in
+    let may : MayRise sc h wish = may_rise g.D.Disk.meaning v node wish c.requires.shared c.requires.standing (c.requires.turn down) is in
+    let stands = told_in g.D.Disk.meaning sc h node.site node.state c.requires.standing.state in
+    let here : IsFallen g.D.Disk.meaning sc h wish.site node.state = subst (λ (n : ℕ). IsFallen g.D.Disk.meaning sc h n node.state) (sym is.site_is) stands in
+    let inside : IsFallen g.D.Disk.meaning sc h wish.site c.self.inside.state =
+    subst (λ (x : NodeView _). IsFallen g.D.Disk.meaning sc h wish.site x.state) (sym c.self.view_is) here in
+    let few = one_more_entry v (length h) c.requires.shared.played (λ all. (let full = c.in_ok-claim.ensures.full.1 all in cc)) in (
+      ap (λ (x : NodeView _). is_up_in x.state) c.self.view_is ∙ sym c.if-is_up.ensures.is,
+      record { scenario = sc; history = h; may = may; tells = inside; few = few },
+    )
 
 pub enter_rise-requires-clause-allowed : goal.enter_rise-requires-clause-allowed
 enter_rise-requires-clause-allowed g c =
