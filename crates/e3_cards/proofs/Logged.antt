@@ -25,21 +25,6 @@ pub put_at : (ms ns : List (TxnKey × Card)) (t : Txn) (card : Card) (k : TxnKey
     → (u : Txn) → IsFoundByBits u → card_at ns u ≡ (if same_txn t u then card else card_at ms u)
 put_at ms ns t card k here key h u known = put_step ms ns (record { txn = t; card = card }) k u here known key (h (txn_key u)) (card_at ms u) refl
 
--- so the others of a transaction that is taken out
-pub others_at : (ms ns : List (TxnKey × Card)) (t : Txn) (card : Card) (k : TxnKey) → IsFoundByBits t → k ≡ txn_key t → Inserts ms ns k card
-    → (u : Txn) → IsFoundByBits u → same_txn t u ≡ false → card_at ns u ≡ card_at ms u
-others_at ms ns t card k here key h u known e = put_at ms ns t card k here key h u known ∙ ap (λ (b : Bool). if b then card else card_at ms u) e
-
--- what was taken out and put back, changed
-pub turned_at : (ms mid ns : List (TxnKey × Card)) (t : Txn) (card : Card) → ((u : Txn) → IsFoundByBits u → same_txn t u ≡ false → card_at mid u ≡ card_at ms u)
-    → ((u : Txn) → IsFoundByBits u → card_at ns u ≡ (if same_txn t u then card else card_at mid u))
-    → (u : Txn) → IsFoundByBits u → card_at ns u ≡ (if same_txn t u then card else card_at ms u)
-turned_at ms mid ns t card rest done u known = done u known ∙ by (same_txn t u) refl
-  where
-    by : (b : Bool) → same_txn t u ≡ b → (if b then card else card_at mid u) ≡ (if b then card else card_at ms u)
-    by true e = refl
-    by false e = rest u known e
-
 seen_card : (site inc : ℕ) (log : List Record) (u : Txn) (r : Record) → noted u r (card_of site u (unstepped inc log)) ≡ card_of site u (unstepped inc (log ++ r ∷ []))
 seen_card site inc log u r = ap (λ (s : Seen). record (card_of site u (unstepped inc log)) { seen = s }) (sym (seen_push u log r))
 

@@ -1,5 +1,5 @@
 // What one more record of a log makes of the cards, at a site that made no step: its transaction's is changed in its place.
-ghost use Rattle.std.specs.Prelude.{◌≡◌, ◌++◌, ◌∷◌, [], if◌then◌else◌, ℕ, false, List as Items, IfOk, OnOk, unwrap_or};
+ghost use Rattle.std.specs.Prelude.{◌≡◌, ◌++◌, ◌∷◌, [], if◌then◌else◌, ℕ, true, false, List as Items, OnOk};
 ghost use Rattle.e3_types.specs.declared.records.Record.{Record as SomeRecord};
 ghost use Rattle.e3_types.specs.declared.transactions.Txn.{Txn as SomeTxn};
 ghost use Rattle.e3_types.specs.Same.{same_txn};
@@ -19,24 +19,20 @@ use e3_world::found_by_bits;
 use std::alloc::Global;
 use std::collections::BTreeMap;
 
-fn or_blank(alloc: Global, card: Option<Card>) -> Card
-    ensures { result ≡ unwrap_or card blank }
-{
-    match card {
-        Some(card) => card,
-        None => blank(alloc),
-    }
-}
-
-// Takes the card of a transaction out; a blank one stands in its place.
-fn take_card(alloc: Global, kept: &mut BTreeMap<TxnKey, Card>, t: &Txn) -> Result<Card, NoMemory>
-    ensures card { IfOk result (λ card. card ≡ card_at kept.old.entries t.now) }
-    ensures rest { OnOk result ((u : SomeTxn) → IsFoundByBits u → same_txn t.now u ≡ false → card_at kept.new.entries u ≡ card_at kept.old.entries u) }
+// Changes the card of a transaction in its place, where it has one.
+fn note_at(kept: &mut BTreeMap<TxnKey, Card>, t: &Txn, r: &Record) -> bool
+    ensures noted { result ≡ true → (u : SomeTxn) → IsFoundByBits u → card_at kept.new.entries u
+        ≡ (if same_txn t.now u then noted t.now r.now (card_at kept.old.entries t.now) else card_at kept.old.entries u) }
+    ensures none { result ≡ false → card_at kept.old.entries t.now ≡ blank }
+    ensures same { result ≡ false → kept.new.entries ≡ kept.old.entries }
 {
     found_by_bits(t);
-    match kept.insert(txn_key(t), blank(alloc)) {
-        Ok(was) => Ok(or_blank(alloc, was)),
-        Err(_) => Err(NoMemory),
+    match kept.get_mut(&txn_key(t)) {
+        Some(card) => {
+            card.seen = seen_by(t, card.seen, r);
+            true
+        }
+        None => false,
     }
 }
 
@@ -68,8 +64,10 @@ fn note_in(
     ensures { OnOk result ((u : SomeTxn) → IsFoundByBits u → card_at kept.new.entries u
         ≡ (if same_txn t.now u then noted t.now r.now (card_at kept.old.entries t.now) else card_at kept.old.entries u)) }
 {
-    let was = take_card(alloc, kept, t)?;
-    put_card(kept, t, noted(was, t, r))
+    if note_at(kept, t, r) {
+        return Ok(());
+    }
+    put_card(kept, t, noted(blank(alloc), t, r))
 }
 
 fn note_of(alloc: Global, cards: &mut Cards, t: &Txn, r: &Record) -> Result<(), NoMemory>

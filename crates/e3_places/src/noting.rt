@@ -4,29 +4,42 @@ ghost use Rattle.std.specs.List.{list_any};
 ghost use Rattle.e3_types.specs.declared.records.Record.{Record as Entry};
 ghost use Rattle.e3_types.specs.declared.records.Record.TheVariants as log;
 ghost use Rattle.e3_places.specs.declared.keys.TxnId.{TxnId as KeptKey};
-ghost use Rattle.e3_places.specs.Keeping.{PlacesStand, claims_at, place_at};
-ghost use Rattle.e3_places.specs.Noting.{ended, left_by, with_vote};
+ghost use Rattle.e3_types.specs.Same.{same_numbers};
+ghost use Rattle.e3_places.specs.Keeping.{PlacesStand, bare, claims_at, place_at};
+ghost use Rattle.e3_places.specs.Noting.{cast_more, ended, left_by, with_vote};
 ghost use Rattle.e3_places.specs.Rising.{risen};
 ghost use Rattle.e3_places.specs.Standing.{cast_in, follow, has_key, is_left, is_on, voted};
 ghost use Rattle.e3_places.specs.Touching.{decided_txns};
 
 use crate::behind::{row_with, voted};
 use crate::keys::{TxnId, txn_id};
-use crate::places::{Claims, ClaimsMap, Place, PlaceMap, Places};
-use crate::taking::{put_claims, put_place, take_claims, take_place};
+use crate::places::{Claims, ClaimsMap, Place, PlaceMap, Places, bare};
+use crate::taking::{put_claims, put_place, take_claims};
 use crate::touching::add_ops;
 use e3_readings::{copy_asked, is_decision, key_of};
 use e3_types::{Dir, List, Name, NoMemory, NumOp, Record, Txn};
 use e3_world::Asked;
 use std::alloc::Global;
+use std::mem;
+
+// The first vote on a name.
+fn put_voted(alloc: Global, names: &mut PlaceMap, name: &Name, a: &Asked) -> Result<(), NoMemory>
+    ensures { OnOk result ((n : Items ℕ) → place_at names.new.entries n
+        ≡ (if same_numbers n name.now then record bare { claims = cast_more bare.claims a.now } else place_at names.old.entries n)) }
+{
+    let mut place = bare(alloc);
+    place.claims.votes.push(copy_asked(a))?;
+    put_place(names, name, place)
+}
 
 fn add_vote(alloc: Global, names: &mut PlaceMap, a: &Asked) -> Result<(), NoMemory>
     ensures { OnOk result ((n : Items ℕ) → place_at names.new.entries n ≡ with_vote n (place_at names.old.entries n) a.now) }
 {
     let name = &key_of(&a.op).name;
-    let mut place = take_place(alloc, names, name)?;
-    place.claims.votes.push(copy_asked(a))?;
-    put_place(names, name, place)
+    match names.get_mut(name) {
+        Some(place) => place.claims.votes.push(copy_asked(a)),
+        None => put_voted(alloc, names, name, a),
+    }
 }
 
 fn add_votes(alloc: Global, names: &mut PlaceMap, t: &Txn, ops: &[NumOp]) -> Result<(), NoMemory>
@@ -91,12 +104,24 @@ fn ended(r: &Record, was: Place) -> Place
     }
 }
 
+fn end_place(alloc: Global, place: &mut Place, r: &Record)
+    ensures { place.new ≡ ended r.now place.old }
+{
+    let was = mem::replace(place, bare(alloc));
+    *place = ended(r, was);
+}
+
 fn end_on(alloc: Global, names: &mut PlaceMap, a: &Asked, r: &Record) -> Result<(), NoMemory>
     ensures { OnOk result ((n : Items ℕ) → place_at names.new.entries n ≡ (if is_on n a.now then ended r.now (place_at names.old.entries n) else place_at names.old.entries n)) }
 {
     let name = &key_of(&a.op).name;
-    let place = take_place(alloc, names, name)?;
-    put_place(names, name, ended(r, place))
+    match names.get_mut(name) {
+        Some(place) => {
+            end_place(alloc, place, r);
+            Ok(())
+        }
+        None => put_place(names, name, ended(r, bare(alloc))),
+    }
 }
 
 // A name may come more than once: what has ended ends no further.

@@ -5,24 +5,9 @@ ghost use Rattle.e3_places.specs.declared.keys.TxnId.{TxnId as KeptKey};
 ghost use Rattle.e3_places.specs.Keeping.{claims_at, is_key, place_at};
 
 use crate::keys::TxnId;
-use crate::places::{Claims, ClaimsMap, Place, PlaceMap, bare, no_claims};
+use crate::places::{Claims, ClaimsMap, Place, PlaceMap, no_claims};
 use e3_types::{Name, NoMemory};
 use std::alloc::Global;
-
-/// Takes what stands on a name out; nothing stands in its place.
-pub(crate) fn take_place(
-    alloc: Global,
-    names: &mut PlaceMap,
-    name: &Name,
-) -> Result<Place, NoMemory>
-    ensures place { IfOk result (λ p. p ≡ place_at names.old.entries name.now) }
-    ensures rest { OnOk result ((n : Items ℕ) → same_numbers n name.now ≡ false → place_at names.new.entries n ≡ place_at names.old.entries n) }
-{
-    match names.insert(name.copy(), bare(alloc)) {
-        Ok(was) => Ok(was.unwrap_or(bare(alloc))),
-        Err(_) => Err(NoMemory),
-    }
-}
 
 /// This stands on the name from now on.
 pub(crate) fn put_place(names: &mut PlaceMap, name: &Name, place: Place) -> Result<(), NoMemory>
