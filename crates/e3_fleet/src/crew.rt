@@ -1,8 +1,8 @@
 //! Workers of the sites of a run, each in a thread of its own: a step settles in rounds, in which the sites take what it
 //! asks of them, and then the packets that come of it; between rounds the driver drops those to sites that are down.
-mod crew;
 mod dropping;
 mod fault;
+mod forks;
 mod rounds;
 mod settling;
 mod worker;

@@ -13,4 +13,4 @@ mod several;
 mod stepping;
 mod walking;
 
-pub use judging::{Audited, audit, is_whole, judge};
+pub use judging::{Audited, audit};

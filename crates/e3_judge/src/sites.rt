@@ -322,12 +322,3 @@ impl Prefix<'_> {
         })
     }
 }
-
-/// A copy of the history with one more entry.
-pub fn copied_with(alloc: Global, history: &[Entry], more: Entry) -> Result<List<Entry>, NoMemory>
-    ensures { IfOk result (λ entries. entries ≡ history.now ++ more ∷ []) }
-{
-    let mut entries = List::of_copies(alloc, history)?;
-    entries.push(more)?;
-    Ok(entries)
-}

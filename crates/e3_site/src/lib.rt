@@ -1,6 +1,6 @@
 //! A site while it is up: it plans a step without doing it, makes room for it, and does it without memory. What it plans
-//! is the plain step. A site rises by being rebuilt from the records of its log, which are first read for one that no
-//! site can have written. Its tables of what it did stand in `past`.
+//! is the step of the definitions. A site rises by being rebuilt from the records of its log, which are first read for one
+//! that no site can have written. Its tables of what it did stand in `past`.
 #![tactic(auto)]
 
 mod before;

@@ -6,8 +6,8 @@ use Rattle.atomic_table.specs.Seated.{TableId}
 use Rattle.e3_fleet.specs.crew.Forks.{CanTake}
 use Rattle.e3_fleet.specs.crew.Turns.{AreDone, HasTaken}
 use Rattle.e3_fleet.specs.crew.Workers.{HasGiven, HasPass, HasTakenItems, HasTakenPackets, HasWorked, HasWorkedWith, IsPassFor, ItemHadNoRoom, Knows, NonePending, seen_of}
-use Rattle.e3_fleet.specs.declared.crew.crew.Turn.{Turn}
-use Rattle.e3_fleet.specs.declared.crew.crew.Turn.TheVariants as turn
+use Rattle.e3_fleet.specs.declared.crew.forks.Turn.{Turn}
+use Rattle.e3_fleet.specs.declared.crew.forks.Turn.TheVariants as turn
 use Rattle.e3_fleet.specs.declared.crew.worker.Worker.{Worker}
 use Rattle.e3_fleet.proofs.crew.Growing.{alike_meanwhile, meanwhile_own, through_meanwhile}
 use Rattle.e3_disk.specs.Meaning.{Meaning}

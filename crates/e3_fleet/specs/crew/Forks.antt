@@ -2,8 +2,8 @@
 use Rattle.std.specs.Prelude.{◌<◌, ℕ, List, length, slice_index_or}
 use Rattle.atomic_table.specs.Seated.{TableId}
 use Rattle.e3_fleet.specs.crew.Workers.{CanTakeItems, CanTakePackets, HasTakenItems, HasTakenPackets}
-use Rattle.e3_fleet.specs.declared.crew.crew.Turn.{Turn}
-use Rattle.e3_fleet.specs.declared.crew.crew.Turn.TheVariants as turn
+use Rattle.e3_fleet.specs.declared.crew.forks.Turn.{Turn}
+use Rattle.e3_fleet.specs.declared.crew.forks.Turn.TheVariants as turn
 use Rattle.e3_fleet.specs.declared.crew.worker.Worker.{Worker}
 use Rattle.e3_disk.specs.Meaning.{Meaning}
 

@@ -14,7 +14,7 @@ ghost use Rattle.e3_world.specs.Packets.{lines, present_items};
 ghost use Rattle.e3_world.specs.Progress.{Delivering};
 
 use crate::crew::Worker;
-use crate::crew::crew::{Round, Turn, all_take, deal, gather};
+use crate::crew::forks::{Round, Turn, all_take, deal, gather};
 use crate::crew::works::Works;
 use e3_disk::{Disk, Drill};
 use e3_node::others_leave_nodes;

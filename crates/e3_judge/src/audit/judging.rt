@@ -5,7 +5,7 @@ ghost use Rattle.e3_judge.specs.Claims.{IsJudged};
 ghost use Rattle.e3_world.specs.Legal.{IsWhole, is_through};
 
 use crate::audit::walking::{Walked, walk};
-use crate::{Breach, Judged, Prefix, judge_behind, lines};
+use crate::{Breach, Prefix, judge_behind, lines};
 use e3_types::{Entry, NoMemory, Scenario};
 use e3_world::History;
 use std::alloc::Global;
@@ -15,17 +15,6 @@ use std::alloc::Global;
 pub struct Audited {
     pub breach: Option<Breach>,
     pub whole: bool,
-}
-
-/// The first entry of a history that breaks the rules, and the first of its guards that fails; none where the history is
-/// legal. A walk with a value for each site and the network passes over entries that it sees to be legal, in about the time
-/// of the run that made them. From the first on that it does not so see, e3_judge's plain readings go on. Want of memory is
-/// the only error.
-pub fn judge(alloc: Global, scenario: &Scenario, history: &History) -> Judged
-    ensures { IfOk result (IsJudged scenario.now history.now.entries) }
-{
-    let walked = walk(alloc, scenario, history.as_slice())?;
-    judge_behind(alloc, scenario, history, walked.passed)
 }
 
 // All before the next line is through, as the walk saw, or as it is read anew.
@@ -45,8 +34,10 @@ fn is_seen_through(
     all.is_through()
 }
 
-/// The first breach of a history, and whether it is whole, which is legal and went through the whole scenario. It costs
-/// little more than `judge`. Want of memory is the only error.
+/// The first entry of a history that breaks the rules, with the first of its guards that fails, none where the history is
+/// legal; and whether it is whole, which is legal and went through the whole scenario. A walk with a value for each site and
+/// the network passes over entries that it sees to be legal, in about the time of the run that made them. From the first on
+/// that it does not so see, `judge_behind` goes on with the plain readings. Want of memory is the only error.
 pub fn audit(alloc: Global, scenario: &Scenario, history: &History) -> Result<Audited, NoMemory>
     ensures judged { IfOk result (λ a. IsJudged scenario.now history.now.entries a.breach) }
     ensures is_whole { IfOk result (λ a. a.whole ≡ is_whole scenario.now history.now.entries) }
@@ -60,13 +51,4 @@ pub fn audit(alloc: Global, scenario: &Scenario, history: &History) -> Result<Au
         whole = is_seen_through(alloc, scenario, entries, walked)?;
     }
     Ok(Audited { breach, whole })
-}
-
-/// The history is legal and went through the whole scenario. Want of memory is the only error.
-pub fn is_whole(alloc: Global, scenario: &Scenario, history: &History) -> Result<bool, NoMemory>
-    ensures found { IfOk result (λ b. b ≡ is_whole scenario.now history.now.entries) }
-    ensures whole { IfOk result (λ b. IsTrue b ↔ IsWhole scenario.now history.now.entries) }
-{
-    let audit = audit(alloc, scenario, history)?;
-    Ok(audit.whole)
 }

@@ -4,7 +4,7 @@ use Rattle.e3_fleet.specs.declared.crew.worker.Worker.{Worker}
 use Rattle.e3_fleet.specs.crew.Workers.{IsDealt}
 use Rattle.e3_fleet.proofs.crew.Dealing.{apart, sooner, still_owns, two_owners}
 use Rattle.e3_fleet.proofs.crew.Members.{changed_more, unchanged_more, same_member}
-use Rattle.e3_fleet.proofs.crew.crew.deal.Goals as goal
+use Rattle.e3_fleet.proofs.crew.forks.deal.Goals as goal
 
 pub loop-worker-init : goal.loop-worker-init
 loop-worker-init g c = record {

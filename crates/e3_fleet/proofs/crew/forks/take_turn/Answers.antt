@@ -1,8 +1,8 @@
 use Rattle.std.proofs.Common.{◌∙◌}
 use Rattle.e3_turn.specs.Passes.{seen_by}
 use Rattle.e3_fleet.proofs.crew.Taking.{pass_to_take, took_items, took_packets}
-use Rattle.e3_fleet.proofs.crew.crew.take_turn.Goals as goal
-use Rattle.e3_fleet.proofs.crew.crew.take_turn.Goals.{in-Items, in-Packets}
+use Rattle.e3_fleet.proofs.crew.forks.take_turn.Goals as goal
+use Rattle.e3_fleet.proofs.crew.forks.take_turn.Goals.{in-Items, in-Packets}
 
 pub take_pass-pass-requires : goal.take_pass-pass-requires
 take_pass-pass-requires g c = pass_to_take g.D.Disk.meaning c.args.works.now.wire.now c.args.worker.now c.args.turn c.requires

@@ -1,6 +1,6 @@
 use Rattle.e3_fleet.specs.crew.Forks.{HasTaken}
 use Rattle.e3_fleet.proofs.crew.Members.{both_told}
-use Rattle.e3_fleet.proofs.crew.crew.+forks.Goals as goal
+use Rattle.e3_fleet.proofs.crew.forks.+forks.Goals as goal
 
 pub all_take-returns : goal.all_take-returns
 all_take-returns g t c =

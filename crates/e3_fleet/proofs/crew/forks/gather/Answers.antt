@@ -6,7 +6,7 @@ use Rattle.e3_fleet.specs.crew.Workers.{HasPass, KeepsItsOwn, seen_of}
 use Rattle.e3_wire.specs.Wires.{IsPlayed}
 use Rattle.e3_fleet.proofs.crew.Dealing.{added_none, each_more, joined_first, joined_played, added_on, owns_more}
 use Rattle.e3_fleet.proofs.crew.Members.{changed_more, unchanged_more, same_member}
-use Rattle.e3_fleet.proofs.crew.crew.gather.Goals as goal
+use Rattle.e3_fleet.proofs.crew.forks.gather.Goals as goal
 
 pub loop-worker-init : goal.loop-worker-init
 loop-worker-init g c = record {

@@ -1,5 +1,5 @@
 use Rattle.std.proofs.Common.{◌+◌, ◌-◌, ◌*◌, length}
-use Rattle.e3_fleet.proofs.crew.crew.+forks.Given as goal
+use Rattle.e3_fleet.proofs.crew.forks.+forks.Given as goal
 
 abbrev pub decreases-all_take : goal.decreases-all_take
 decreases-all_take g l = 4 * length l.workers.now

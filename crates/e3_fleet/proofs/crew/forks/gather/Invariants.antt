@@ -4,7 +4,7 @@ use Rattle.e3_turn.specs.Passes.{IsIdle, Owns, last_of, seen_by}
 use Rattle.e3_fleet.specs.declared.crew.worker.Worker.{Worker}
 use Rattle.e3_fleet.specs.crew.Workers.{AddedByOthers, KeepsItsOwn, seen_of}
 use Rattle.e3_wire.specs.Wires.{IsPlayed}
-use Rattle.e3_fleet.proofs.crew.crew.gather.Given as goal
+use Rattle.e3_fleet.proofs.crew.forks.gather.Given as goal
 
 abbrev pub invariant-loop-worker : goal.invariant-loop-worker
 invariant-loop-worker g l = record {

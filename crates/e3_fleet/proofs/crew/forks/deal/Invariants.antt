@@ -3,7 +3,7 @@ use Rattle.std.specs.Prelude.{slice_index_or}
 use Rattle.e3_turn.specs.Passes.{IsIdle, Owns, last_of, seen_by}
 use Rattle.e3_fleet.specs.declared.crew.worker.Worker.{Worker}
 use Rattle.e3_fleet.specs.crew.Workers.{IsDealt}
-use Rattle.e3_fleet.proofs.crew.crew.deal.Given as goal
+use Rattle.e3_fleet.proofs.crew.forks.deal.Given as goal
 
 abbrev pub invariant-loop-worker : goal.invariant-loop-worker
 invariant-loop-worker g l = record {

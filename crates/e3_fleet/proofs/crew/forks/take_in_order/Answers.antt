@@ -2,7 +2,7 @@ use Rattle.std.proofs.Common.{rules, subst}
 use Rattle.std.specs.Prelude.{slice_index_or}
 use Rattle.e3_fleet.specs.declared.crew.worker.Worker.{Worker}
 use Rattle.e3_fleet.specs.crew.Forks.{HasTaken}
-use Rattle.e3_fleet.proofs.crew.crew.take_in_order.Goals as goal
+use Rattle.e3_fleet.proofs.crew.forks.take_in_order.Goals as goal
 
 pub returns : goal.returns
 returns g c i d h =
