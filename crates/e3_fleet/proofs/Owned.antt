@@ -10,7 +10,7 @@ use Rattle.e3_fleet.proofs.Going.{Went}
 use Rattle.e3_fleet.proofs.Kept.{GoesOn, Took}
 use Rattle.e3_fleet.proofs.Numbers.{goes_cut, goes_own, goes_stop, keeps_on, still, stop_apart}
 use Rattle.e3_node.specs.Ends.{FellOver, HasFailedToRise, HasRisen, is_fall}
-use Rattle.e3_site_log.specs.Ends.{IsReason, calls_for}
+use Rattle.e3_node.specs.site_log.Ends.{IsReason, calls_for}
 use Rattle.e3_node.specs.NodeView.{NodeView, disk_of}
 use Rattle.e3_node.specs.declared.fault.CutFault.{CutFault}
 use Rattle.e3_node.specs.declared.fault.CutFault.TheVariants as cut_fault

@@ -10,7 +10,7 @@ use Rattle.e3_fleet.proofs.Kept.{Took, kept_in, kept_more, kept_on, kept_through
 use Rattle.e3_fleet.proofs.Rooms.{rooms_push}
 use Rattle.e3_fleet.proofs.Numbers.{goes_in, goes_own, keeps_on}
 use Rattle.e3_node.specs.Batches.{fall_over, stepped}
-use Rattle.e3_site_log.specs.Ends.{IsReason, Takes, calls_for}
+use Rattle.e3_node.specs.site_log.Ends.{IsReason, Takes, calls_for}
 use Rattle.e3_types.specs.declared.entries.Act.TheVariants.{Fall}
 use Rattle.e3_types.specs.declared.entries.Entry.{Entry}
 use Rattle.e3_types.specs.declared.entries.Input.{Input}

@@ -21,7 +21,7 @@ use Rattle.e3_fleet.proofs.Together.{batch_kept, batch_rooms, fall_kept, fall_ro
 use Rattle.e3_fleet.proofs.Numbers.{goes_other}
 use Rattle.e3_laws.specs.local.Others.{AreOthers}
 use Rattle.e3_node.specs.Ends.{FellOver, is_fall}
-use Rattle.e3_site_log.specs.Ends.{IsReason}
+use Rattle.e3_node.specs.site_log.Ends.{IsReason}
 use Rattle.e3_node.specs.NodeStands.{NodeStands}
 use Rattle.e3_node.specs.NodeView.{NodeView, disk_of}
 use Rattle.e3_node.specs.declared.fault.InputFault.{InputFault}

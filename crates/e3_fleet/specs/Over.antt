@@ -5,7 +5,7 @@ use Rattle.e3_disk.specs.Meaning.{Meaning}
 use Rattle.e3_disk.specs.Meters.{Meters, LAST, raised}
 use Rattle.e3_fleet.specs.Stops.{NoStopIsPassed, arms_of, calls_in, codes_in, cuts_at}
 use Rattle.e3_node.specs.Bodies.{DiskStands, log_with}
-use Rattle.e3_site_log.specs.Ends.{IsFull}
+use Rattle.e3_node.specs.site_log.Ends.{IsFull}
 use Rattle.e3_types.specs.declared.entries.Act.{Act}
 use Rattle.e3_types.specs.declared.entries.Act.TheVariants.{Fall, RiseFall, Miss}
 use Rattle.e3_types.specs.declared.entries.Entry.{Entry}

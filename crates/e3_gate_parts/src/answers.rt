@@ -1,7 +1,7 @@
 // What came of a call, as text.
 use e3_disk::DiskFault;
 use e3_log::{AppendFault, Frame, OpenCause, TurnFault};
-use e3_report::lines::Page;
+use e3_report::Page;
 
 fn push_full(page: &mut Page, need: u64, room: u64) {
     page.labelled("full ", need);

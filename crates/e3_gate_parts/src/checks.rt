@@ -5,8 +5,8 @@
 mod plain;
 
 use crate::cases::{Case, cases_in};
-use e3_check::check;
-use e3_report::lines::Page;
+use e3_report::Page;
+use e3_trace::verdicts::check;
 use e3_types::NoMemory;
 use plain::plain_line;
 use std::alloc::Global;

@@ -4,8 +4,7 @@
 mod scenarios;
 
 use crate::texts::{cut, parts_of};
-use e3_report::lines::Page;
-use e3_report::report;
+use e3_report::{Page, report};
 use e3_scenario::read_scenario;
 use e3_trace::{before_mark, read_trace};
 use e3_types::{NoMemory, Scenario};

@@ -5,7 +5,7 @@ ghost use Rattle.std.specs.Prelude.{◌≤◌};
 mod same;
 
 use e3_gen::{generated, generated_scenario};
-use e3_report::lines::Page;
+use e3_report::Page;
 use e3_scenario::{ScenarioFault, read_scenario};
 use e3_types::{NoMemory, Scenario};
 use same::is_same_scenario;

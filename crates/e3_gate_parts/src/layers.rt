@@ -8,7 +8,7 @@ mod nets;
 mod streams;
 mod values;
 
-use e3_report::lines::Page;
+use e3_report::Page;
 use std::alloc::Global;
 
 /// Adds all lines.

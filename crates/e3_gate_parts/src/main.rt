@@ -15,7 +15,7 @@ mod regions;
 mod sites;
 mod texts;
 
-use e3_report::lines::Page;
+use e3_report::Page;
 use std::process::ExitCode;
 
 fn main(rt: HostRuntime) -> ExitCode {

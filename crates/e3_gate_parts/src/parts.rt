@@ -7,7 +7,7 @@ mod quorums;
 mod rows;
 mod verdicts;
 
-use e3_report::lines::Page;
+use e3_report::Page;
 use std::alloc::Global;
 
 /// Adds all lines.

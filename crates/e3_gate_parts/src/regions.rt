@@ -5,7 +5,7 @@ mod commands;
 mod held;
 
 use crate::texts::{cut, number, parts_of};
-use e3_report::lines::Page;
+use e3_report::Page;
 use e3_types::NoMemory;
 use held::{Held, blank};
 use std::alloc::Global;

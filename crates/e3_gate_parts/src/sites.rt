@@ -14,7 +14,7 @@ mod readings;
 use crate::cases::cases_in;
 use crate::texts::{cut, number};
 use e3_judge::Prefix;
-use e3_report::lines::Page;
+use e3_report::Page;
 use e3_scenario::read_scenario;
 use e3_trace::{before_mark, read_trace};
 use e3_types::Scenario;

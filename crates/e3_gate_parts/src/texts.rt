@@ -1,5 +1,5 @@
 // Words of the input, and what cases of several parts print.
-use e3_report::lines::Page;
+use e3_report::Page;
 use e3_types::{List, NoMemory, Txn};
 use std::alloc::Global;
 

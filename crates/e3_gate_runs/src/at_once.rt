@@ -11,7 +11,7 @@ mod nodes;
 use crate::given::{Given, Ran, played_behind};
 use batches::push_batches;
 use e3_outside::MemSink;
-use e3_report::lines::Page;
+use e3_report::Page;
 use meeting::Meeting;
 use nodes::push_nodes;
 use std::alloc::Global;

@@ -8,7 +8,7 @@ mod comparing;
 use crate::playing::history_of;
 use crate::texts::without_end;
 use comparing::{Tally, compare_all};
-use e3_report::lines::Page;
+use e3_report::Page;
 use e3_scenario::read_scenario;
 use std::alloc::Global;
 use std::sync::Wait;

@@ -20,7 +20,7 @@ mod standing;
 
 use crate::given::{Asked, Given};
 use crate::texts::{cut, number, without_end};
-use e3_report::lines::Page;
+use e3_report::Page;
 use std::alloc::Global;
 use std::sync::Wait;
 use std::thread::Threads;

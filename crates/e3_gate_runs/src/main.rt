@@ -16,7 +16,7 @@ mod texts;
 mod turns;
 
 use e3_outside::StdSource;
-use e3_report::lines::Page;
+use e3_report::Page;
 use judged::pace;
 use std::alloc::Global;
 use std::env;

@@ -4,13 +4,13 @@
 
 ghost use Rattle.e3_world.specs.Given.{IsGiven};
 
+mod recoveries;
 mod reports;
-mod rounds;
 mod rows;
 mod verdicts;
 
 use crate::playing::history_of;
-use e3_report::lines::Page;
+use e3_report::Page;
 use e3_scenario::read_scenario;
 use e3_types::Scenario;
 use std::alloc::Global;
@@ -27,7 +27,7 @@ fn push_scenario<R: Wait + Threads + Sync>(
     requires { IsGiven scenario.now }
 {
     match history_of(rt, alloc, scenario) {
-        Some(history) => rounds::push_rounds(page, scenario, history.as_slice()),
+        Some(history) => recoveries::push_rounds(page, scenario, history.as_slice()),
         None => page.lack(),
     }
     reports::push_reports(rt, alloc, page, scenario);

@@ -10,7 +10,7 @@ mod journal;
 mod worker;
 
 use crew::run;
-use e3_report::lines::Page;
+use e3_report::Page;
 use e3_types::NoMemory;
 use journal::Mark;
 use std::alloc::Global;

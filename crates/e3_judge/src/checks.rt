@@ -14,10 +14,9 @@ use crate::equal::{Same, same_list};
 use crate::inputs::is_empty;
 use crate::prefix::Prefix;
 use crate::{
-    Guard, Tail, is_site, is_up_at, lines, may_rise, parts_due, present_items, sent_count,
-    since_line,
+    Guard, Tail, is_site, is_up_at, lines, may_rise, present_items, sent_count, since_line,
 };
-use e3_readings::logged_inc;
+use e3_readings::{logged_inc, parts_due};
 use e3_types::{Act, Entry, Input, Item, List, NoMemory, Packet, Record, SiteSet, Told};
 use e3_world::Made;
 use std::alloc::Global;

@@ -37,4 +37,4 @@ pub(crate) use packets::{lines, sent_count};
 pub use packets::{is_calm, present_items};
 pub use prefix::Prefix;
 pub use sites::Tail;
-pub(crate) use steps::{begins_with_parts, is_site, may_rise, parts_due};
+pub(crate) use steps::{begins_with_parts, is_site, may_rise};

@@ -6,7 +6,7 @@ ghost use Rattle.e3_world.specs.Items.{due_round, elected_txn, inputs_of, is_up_
 use crate::items::{is_up_at, since_line, to_line};
 use crate::packets::present_items;
 use crate::prefix::Prefix;
-use e3_readings::{RecoveryRound, add_undecided_in, in_order, life_of, rounds_of};
+use e3_readings::{RecoveryRound, add_undecided_in, life_of, rounds_of};
 use e3_types::{Act, Entry, Input, Item, List, NoMemory, SiteSet, Txn};
 use std::alloc::Global;
 
@@ -132,8 +132,7 @@ impl Prefix<'_> {
     {
         let up = up_in(self.alloc, self.entries, group)?;
         let open = self.open_of(up.as_slice())?;
-        let txns = in_order(self.alloc, open.as_slice())?;
-        rounds_of(self.alloc, txns.as_slice(), up.as_slice())
+        rounds_of(self.alloc, open.as_slice(), up.as_slice())
     }
 
     /// The next round to be made: the first that is left whose elector is up.

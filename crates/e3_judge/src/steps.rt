@@ -2,15 +2,13 @@
 ghost use Rattle.std.specs.Prelude.{◌≡◌, ◌&&◌, ◌||◌, not, nat_lt, IfOk};
 ghost use Rattle.std.specs.List.{list_all};
 ghost use Rattle.e3_types.specs.Sets.{has_site};
-ghost use Rattle.e3_world.specs.Legal.{begins_with_parts, has_rising, is_made, is_rising, is_through, may_rise, parts_due};
+ghost use Rattle.e3_world.specs.Legal.{begins_with_parts, has_rising, is_made, is_rising, is_through, may_rise};
 ghost use Rattle.e3_world.specs.Packets.{all_sites};
 
 use crate::items::{is_up_at, since_line};
 use crate::packets::{lines, present_items};
 use crate::prefix::Prefix;
-use e3_types::{Act, Copied, Entry, Item, List, NoMemory, Scenario, SiteSet};
-use e3_world::all_sites;
-use std::alloc::Global;
+use e3_types::{Act, Entry, Item, NoMemory, Scenario};
 
 /// The owner is a site of the scenario.
 #[tactic(auto, using(crate::proofs::AllSites::has_from_one))]
@@ -18,26 +16,6 @@ pub fn is_site(scenario: &Scenario, owner: u32) -> bool
     ensures { result ≡ has_site (all_sites scenario.now) owner }
 {
     1 <= owner && owner as u64 <= scenario.weights.len()
-}
-
-/// The parts that a split or a merge asks for. A merge of more than 64 sites, which no set of sites can name, is said to
-/// want memory.
-pub fn parts_due(
-    alloc: Global,
-    scenario: &Scenario,
-    items: &[Item],
-) -> Result<Option<List<SiteSet>>, NoMemory>
-    ensures { IfOk result (λ due. due ≡ parts_due scenario.now items.now) }
-{
-    match items {
-        [Item::Split { parts }, ..] => Ok(Some(parts.copied(alloc)?)),
-        [Item::Merge, ..] => {
-            let mut parts = List::new(alloc);
-            parts.push(all_sites(scenario)?)?;
-            Ok(Some(parts))
-        }
-        _ => Ok(None),
-    }
 }
 
 // A rise, a failed one or a missed one.

@@ -21,6 +21,6 @@ pub use locks::Locks;
 pub use names::{add_name, add_names};
 pub use place::mode_among;
 pub use replays::{LockCall, replay_locks};
-pub use rule::{front, front_length, lock_grant};
+pub use rule::{front, lock_grant};
 pub use table::LockTable;
 pub use waits::add_txn;

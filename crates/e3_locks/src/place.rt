@@ -11,8 +11,9 @@ ghost use Rattle.e3_locks.specs.Waiting.{awaited_at};
 
 use crate::fronts::push_named;
 use crate::granted::stronger;
+use crate::rule::front_length;
 use crate::waits::add_awaited;
-use crate::{Granted, front, front_length, lock_grant};
+use crate::{Granted, front, lock_grant};
 use e3_types::{Grant, List, Lock, Mode, Name, Named, NoMemory, Txn};
 use std::alloc::Global;
 use std::marker::Model;

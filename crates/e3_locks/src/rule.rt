@@ -64,7 +64,7 @@ pub fn lock_grant(wanted: &Lock, holders: &[Lock], waiters: &[Lock]) -> Grant
 
 /// How many of a queue get their lock, where these hold locks of the record: the longest front whose members are each
 /// compatible with all other holders.
-pub fn front_length(holders: &[Lock], queue: &[Lock]) -> usize
+pub(crate) fn front_length(holders: &[Lock], queue: &[Lock]) -> usize
     ensures few { result ≤ length queue.now }
     ensures front { take result queue.now ≡ front holders.now queue.now }
 {

@@ -86,7 +86,7 @@ impl Net {
     }
 
     /// Makes room for so many packets more. Want of memory is the only error.
-    pub fn reserve(&mut self, outs: u32) -> Result<(), NoMemory>
+    pub fn reserve(&mut self, outs: u64) -> Result<(), NoMemory>
         ensures traffic { self.new.traffic ≡ self.old.traffic }
         ensures grows { self.old.room ≤ self.new.room }
         ensures ok { OnOk result (outs ≤ self.new.room) }

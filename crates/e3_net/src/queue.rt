@@ -57,7 +57,7 @@ impl Model for Queue {
 }
 
 // Makes room for so many slots more.
-fn make_room(slots: &mut VecDeque<Slot>, outs: u32) -> Result<(), NoMemory>
+fn make_room(slots: &mut VecDeque<Slot>, outs: u64) -> Result<(), NoMemory>
     ensures items { slots.new.items ≡ slots.old.items }
     ensures grows { deque_capacity slots.old ≤ deque_capacity slots.new }
     ensures ok { OnOk result (deque_len slots.new + outs ≤ deque_capacity slots.new) }
@@ -86,7 +86,7 @@ impl Queue {
     }
 
     /// Makes room for so many packets more. Want of memory is the only error.
-    pub(crate) fn reserve(&mut self, outs: u32) -> Result<(), NoMemory>
+    pub(crate) fn reserve(&mut self, outs: u64) -> Result<(), NoMemory>
         ensures items { self.new.items ≡ self.old.items }
         ensures given { self.new.given ≡ self.old.given }
         ensures grows { self.old.room ≤ self.new.room }

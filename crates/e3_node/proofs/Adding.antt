@@ -34,9 +34,9 @@ use Rattle.e3_world.specs.declared.lives.Incarnation.{Incarnation}
 use Rattle.e3_world.specs.declared.lives.SiteStep.{SiteStep}
 use Rattle.e3_node.proofs.Batches.{unnumbered_push, records_push, stepped_push}
 use Rattle.e3_node.proofs.Bundles.{unnumbered_length, steps_log}
-use Rattle.e3_site_log.specs.Ends.{HasRoom, HasRoomUnlessShort, IsShortIf}
-use Rattle.e3_site_log.specs.declared.writing.Short.{Short}
-use Rattle.e3_site_log.proofs.Holding.{back_both}
+use Rattle.e3_node.specs.site_log.Ends.{HasRoom, HasRoomUnlessShort, IsShortIf}
+use Rattle.e3_node.specs.declared.site_log.writing.Short.{Short}
+use Rattle.e3_node.proofs.site_log.Holding.{back_both}
 use Rattle.e3_node.proofs.Several.{claims_push}
 use Rattle.e3_node.proofs.Steps.{IsMade, counted_once}
 

@@ -20,9 +20,9 @@ use Rattle.e3_node.specs.Briefing.{IsBriefOf, IsReadBrief}
 use Rattle.e3_node.specs.Telling.{IsOfSite}
 use Rattle.e3_site.specs.Rebuilt.{IsRebuilt}
 use Rattle.e3_site.specs.SiteView.{SiteView, risen_with}
-use Rattle.e3_site_log.specs.Ends.{HasRoomUnlessShort}
-use Rattle.e3_site_log.specs.declared.writing.Short.{Short}
-use Rattle.e3_site.specs.Tables.{IsInOrder}
+use Rattle.e3_node.specs.site_log.Ends.{HasRoomUnlessShort}
+use Rattle.e3_node.specs.declared.site_log.writing.Short.{Short}
+use Rattle.e3_site.specs.TableBrief.{IsInOrder}
 use Rattle.e3_site.proofs.AlikeTables.{in_order_alike}
 use Rattle.e3_types.specs.declared.entries.Entry.{Entry}
 use Rattle.e3_types.specs.declared.scenarios.Scenario.{Scenario}

@@ -13,7 +13,7 @@ use Rattle.e3_laws.proofs.local.Queues.{first_are_waiting, front_is_least, queue
 use Rattle.e3_node.specs.Batches.{unnumbered_of, unnumbered_steps, stepped}
 use Rattle.e3_node.specs.Bodies.{entries_at}
 use Rattle.e3_node.specs.NodeStands.{steps_at}
-use Rattle.e3_node.specs.Several.{AreOf, MayEnterAll}
+use Rattle.e3_node.specs.Several.{AreOf, MayEnterAll, claims_for}
 use Rattle.e3_log.specs.Stands.{LogState}
 use Rattle.e3_types.specs.declared.entries.Entry.{Entry}
 use Rattle.e3_types.specs.declared.entries.Input.{Input}
@@ -21,7 +21,7 @@ use Rattle.e3_types.specs.declared.entries.Input.TheVariants as input
 use Rattle.e3_types.specs.declared.messages.Packet.{Packet}
 use Rattle.e3_types.specs.declared.records.Record.{Record}
 use Rattle.e3_types.specs.declared.scenarios.Scenario.{Scenario}
-use Rattle.e3_wire.specs.Marks.{entries_of, note_of, used_by}
+use Rattle.e3_wire.specs.Marks.{AreFew, entries_of, note_of, used_by}
 use Rattle.e3_wire.specs.declared.marks.Mark.{Mark}
 use Rattle.e3_wire.specs.declared.marks.Mark.TheVariants as mark
 use Rattle.e3_wire.specs.declared.marks.Note.{Note}
@@ -41,8 +41,8 @@ use Rattle.e3_world.proofs.Readings.{up_same}
 use Rattle.e3_world.proofs.Turns.{self}
 use Rattle.e3_node.proofs.Guarding.{step_entry}
 use Rattle.e3_node.proofs.Several.{enter_list, outs_in, used_all}
-use Rattle.e3_site_log.specs.Bodies.{IsLogged}
-use Rattle.e3_site_log.proofs.Writes.{logged_later}
+use Rattle.e3_node.specs.site_log.Bodies.{IsLogged}
+use Rattle.e3_node.proofs.site_log.Writes.{logged_later}
 use Rattle.e3_node.proofs.Pasts.{entries_on}
 use Rattle.e3_node.proofs.Steps.{one_step_more, step_moves}
 
@@ -182,7 +182,7 @@ due_on_all sc h more site inputs given legal others sites calm first due =
     (first_are_waiting sc (h ++ more) site inputs legal (first_on sc h more site inputs legal others sites first)) due
 
 -- Steps that are due, whose packets are the first to the site, may be entered one behind the other where a place and the room
--- of its packets are promised for each.
+-- of its packets are promised for each, and 32 bits count these.
 pub may_enter_all : (sc : Scenario) (most : ℕ) (more : List Mark) (h : List Entry) (site : ℕ) (packets rest : List Packet) (p r : ℕ) →
     entries_of (mark.Start sc most ∷ more) ≡ h → IsLegal sc h → 1 ≤ site → site ≤ length sc.weights → is_up_at h site ≡ true →
     AreDue sc h site (map input.Deliver packets) → queue_to sc h site ≡ packets ++ rest →
@@ -190,21 +190,23 @@ pub may_enter_all : (sc : Scenario) (most : ℕ) (more : List Mark) (h : List En
       places = p + length (unnumbered_steps sc h site (map input.Deliver packets));
       room = r + outs_in (unnumbered_steps sc h site (map input.Deliver packets));
     } →
+    AreFew (claims_for (unnumbered_steps sc h site (map input.Deliver packets))) →
     MayEnterAll (mark.Start sc most ∷ more) (unnumbered_steps sc h site (map input.Deliver packets))
-may_enter_all sc most more h site [] rest p r is legal one exists up due queue note = tt
-may_enter_all sc most more h site (q ∷ packets) rest p r is legal one exists up due queue note = (
+may_enter_all sc most more h site [] rest p r is legal one exists up due queue note few = tt
+may_enter_all sc most more h site (q ∷ packets) rest p r is legal one exists up due queue note few = (
   record {
     site = one;
     exists = exists;
     allowed = subst (λ (k : List Entry). Allows sc k e) (sym is) (subst (Guard sc h) (sym (unnumbered_entry sc h site i)) guard);
     takes = subst (λ (k : List Entry). IsLeastTo sc k site q) (sym is) (front_is_least sc h site q (packets ++ rest) queue);
     place = subst (λ (w : Note). 1 ≤ w.places) (sym note) (let some : 1 ≤ p + suc (length after) = omega arith in some);
-    room = subst (λ (w : Note). outs ≤ w.room) (sym note) (let few : outs ≤ r + (outs + outs_in after) = omega arith in few);
+    room = subst (λ (w : Note). outs ≤ w.room) (sym note) (let all : outs ≤ r + (outs + outs_in after) = omega arith in all);
+    few = few.0;
   },
   subst (λ (x : Entry). MayEnterAll (M ++ mark.Entered x ∷ []) after) (sym (ap (λ (k : List Entry). numbered_on k e) is ∙ unnumbered_entry sc h site i))
       (may_enter_all sc most (more ++ mark.Entered x ∷ []) (h ++ x ∷ []) site packets (rest ++ on.0) p r
       (entries_append M (mark.Entered x ∷ []) ∙ ap (λ (k : List Entry). k ++ x ∷ []) is)
-      (legal_push sc h x legal guard) one exists (up_same h x site (self site) ∙ up) due.1 (on.1 ∙ append_assoc packets rest on.0) noted),
+      (legal_push sc h x legal guard) one exists (up_same h x site (self site) ∙ up) due.1 (on.1 ∙ append_assoc packets rest on.0) noted few.1),
 )
   where
     i : Input

@@ -22,10 +22,10 @@ use Rattle.e3_node.specs.Bodies.{ReadsTold, entries_at, log_with}
 use Rattle.e3_node.specs.Briefing.{HasBody}
 use Rattle.e3_node.specs.Rising.{MayRise, NextIsCounted}
 use Rattle.e3_node.specs.declared.readying.Wish.{Wish}
-use Rattle.e3_site_log.specs.Bodies.{IsLogged, bodies_in, joined}
-use Rattle.e3_site_log.specs.Ends.{MayTurn}
-use Rattle.e3_site_log.specs.declared.writing.Short.{Short}
-use Rattle.e3_site_log.proofs.Frames.{spells}
+use Rattle.e3_node.specs.site_log.Bodies.{IsLogged, bodies_in, joined}
+use Rattle.e3_node.specs.site_log.Ends.{MayTurn}
+use Rattle.e3_node.specs.declared.site_log.writing.Short.{Short}
+use Rattle.e3_node.proofs.site_log.Frames.{spells}
 use Rattle.e3_types.specs.Spelling.{spelling}
 use Rattle.e3_types.specs.declared.entries.Act.{Act}
 use Rattle.e3_types.specs.declared.entries.Act.TheVariants.{Step, Fall, Rise, RiseFall, Miss, Cut, Drop, Parts, Line}

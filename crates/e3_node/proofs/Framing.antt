@@ -7,8 +7,8 @@ use Rattle.e3_log.specs.Stands.{LogState}
 use Rattle.e3_log.specs.declared.region.Region.{Region}
 use Rattle.e3_log.specs.declared.region.Region.TheVariants.{First, Second}
 use Rattle.e3_node.specs.Ends.{IsOneFrame}
-use Rattle.e3_site_log.specs.Ends.{HasRoom, IsBehind, IsPut, IsShortIf, IsTurned, size_of}
-use Rattle.e3_site_log.specs.declared.writing.Short.{Short}
+use Rattle.e3_node.specs.site_log.Ends.{HasRoom, IsBehind, IsPut, IsShortIf, IsTurned, size_of}
+use Rattle.e3_node.specs.declared.site_log.writing.Short.{Short}
 use Rattle.e3_types.specs.declared.records.Record.{Record}
 
 -- the other region is another one

@@ -17,8 +17,8 @@ use Rattle.e3_node.specs.declared.state.State.TheVariants.{Down, Up}
 use Rattle.e3_site.specs.StandsAlike.{IsLogInOrder}
 use Rattle.e3_site.proofs.Alike.{still}
 use Rattle.e3_site.specs.SiteView.{SiteView}
-use Rattle.e3_site_log.specs.Bodies.{IsLogged, ReadsAs, bodies_in, counted, joined}
-use Rattle.e3_site_log.proofs.Holding.{hold_nothing}
+use Rattle.e3_node.specs.site_log.Bodies.{IsLogged, ReadsAs, bodies_in, counted, joined}
+use Rattle.e3_node.proofs.site_log.Holding.{hold_nothing}
 use Rattle.e3_types.specs.declared.records.Record.{Record}
 use Rattle.e3_types.specs.declared.entries.Entry.{Entry}
 use Rattle.e3_types.specs.declared.scenarios.Scenario.{Scenario}

@@ -5,8 +5,8 @@ use Rattle.e3_disk.specs.Meaning.{Meaning}
 use Rattle.e3_world.specs.Brief.{brief}
 use Rattle.e3_log.specs.Reading.{ReadsAs as BytesReadAs}
 use Rattle.e3_log.specs.Stands.{LogState, Stands}
-use Rattle.e3_site_log.specs.Bodies.{ReadsAs, ReadsLeft, joined, with_kept}
-use Rattle.e3_site_log.proofs.Holding.{hold_same}
+use Rattle.e3_node.specs.site_log.Bodies.{ReadsAs, ReadsLeft, joined, with_kept}
+use Rattle.e3_node.proofs.site_log.Holding.{hold_same}
 use Rattle.e3_node.specs.Bodies.{DiskHolds, DiskTells, ReadsTold}
 use Rattle.e3_types.specs.declared.entries.Entry.{Entry}
 use Rattle.e3_types.specs.declared.entries.Input.{Input}

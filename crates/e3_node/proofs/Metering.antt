@@ -4,7 +4,7 @@ use Rattle.std.proofs.Math.Nat.{min-le_left, min-le_right, le-min}
 use Rattle.std.specs.Prelude.{min}
 use Rattle.e3_disk.specs.Meters.{LAST, Keeps, Meters, HasFailed, lit, raised}
 use Rattle.e3_log.specs.Opening.{TakesOne}
-use Rattle.e3_site_log.specs.Ends.{Takes}
+use Rattle.e3_node.specs.site_log.Ends.{Takes}
 use Rattle.e3_node.specs.Rising.{RiseTakes}
 use Rattle.e3_node.specs.declared.rising.Raised.{Raised}
 use Rattle.e3_node.specs.declared.rising.Raised.TheVariants as raised_as

@@ -18,12 +18,13 @@ use Rattle.e3_types.specs.declared.entries.Why.{Why}
 use Rattle.e3_types.specs.declared.messages.Packet.{Packet}
 use Rattle.e3_types.specs.declared.records.Record.{Record}
 use Rattle.e3_types.specs.declared.scenarios.Scenario.{Scenario}
-use Rattle.e3_wire.specs.Marks.{AreForeign, entries_of, note_of, scenario_of}
+use Rattle.e3_wire.specs.Marks.{AreFew, AreForeign, entries_of, note_of, scenario_of}
 use Rattle.e3_wire.specs.Wires.{IsPlayed, TakesInTurn}
 use Rattle.e3_wire.specs.declared.marks.Mark.{Mark}
 use Rattle.e3_wire.specs.declared.marks.Mark.TheVariants as mark
 use Rattle.e3_wire.specs.declared.marks.Note.{Note}
 use Rattle.e3_wire.proofs.Foreign.{notes_stay}
+use Rattle.e3_wire.proofs.Rooms.{few_back, few_front}
 use Rattle.e3_world.specs.Given.{IsGiven}
 use Rattle.e3_world.specs.Items.{is_up_at}
 use Rattle.e3_world.specs.Legal.{AreDue, IsLegal, entry_of, records_by}
@@ -33,7 +34,7 @@ use Rattle.e3_laws.proofs.local.Alike.{all_on}
 use Rattle.e3_laws.proofs.local.Laws.{legal_behind}
 use Rattle.e3_node.proofs.Batches.{unnumbered_same}
 use Rattle.e3_node.proofs.Bundles.{due_on_all, first_on, may_enter_all, unnumbered_own}
-use Rattle.e3_site_log.specs.Bodies.{ReadsLeft}
+use Rattle.e3_node.specs.site_log.Bodies.{ReadsLeft}
 use Rattle.e3_node.proofs.Left.{left_tells}
 use Rattle.e3_node.proofs.Pasts.{entries_on, past_on}
 use Rattle.e3_node.proofs.Several.{note_claimed, outs_in}
@@ -137,10 +138,14 @@ module _ (sc : Scenario) (h : List Entry) (site first : ℕ) (done : List Input)
       let D : List Input → Type 0 = λ l. AreDue sc k site l in
       let N : List Input → Type 0 = λ l. note_of site (mark.Start sc b.most ∷ b.more) ≡ record { places = p + length (unnumbered_steps sc k site l); room = r + outs_in (unnumbered_steps sc k site l) } in
       let S : List Entry → Type 0 = λ es. note_of site (mark.Start sc b.most ∷ b.more) ≡ record { places = p + length es; room = r + outs_in es } in
+      let F : List Input → Type 0 = λ l. AreFew (claims_for (unnumbered_steps sc k site l)) in
+      let G : List Entry → Type 0 = λ es. AreFew (claims_for es) in
+      let H : List Mark → Type 0 = λ l. AreFew l in
+      let few : AreFew (claims_for steps) = few_back marks (claims_for steps) (few_front (marks ++ claims_for steps) second (subst H is played.promises)) in
       subst P (sym start) (subst Q same (subst R (sym deliver)
       (may_enter_all sc b.most b.more k site packets firsts.rest p r (ap entries_of (sym start) ∙ entries)
       (let L : Scenario → Type 0 = λ s. IsLegal s k in let M : List Entry → Type 0 = λ l. IsLegal (scenario_of now) l in subst L keys (subst M entries played.legal))
-      one exists up (subst D deliver due) firsts.first (subst N deliver (subst S (sym same) (ap (note_of site) (sym start) ∙ noted))))))
+      one exists up (subst D deliver due) firsts.first (subst N deliver (subst S (sym same) (ap (note_of site) (sym start) ∙ noted))) (subst F deliver (subst G (sym same) few)))))
 
 -- the disk of a site that fell over several inputs
 pub fallen_all_tells : (sc : Scenario) (h : List Entry) (site capacity : ℕ) (inputs : List Input) (records : List Record) (why : Why) (logged : ℕ) (image : List ℕ → Type 0) →

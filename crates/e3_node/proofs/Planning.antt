@@ -8,9 +8,9 @@ use Rattle.e3_node.specs.Batches.{unnumbered_steps}
 use Rattle.e3_node.specs.Several.{AreOwned, claims_for, marks_in}
 use Rattle.e3_node.specs.Turns.{Meanwhile}
 use Rattle.e3_node.specs.declared.batching.Batch.{Batch}
-use Rattle.e3_site_log.specs.Ends.{HasRoom, IsShortIf, size_of}
+use Rattle.e3_node.specs.site_log.Ends.{HasRoom, IsShortIf, size_of}
 use Rattle.e3_node.specs.Briefing.{HasBody}
-use Rattle.e3_site_log.specs.declared.writing.Short.{Short}
+use Rattle.e3_node.specs.declared.site_log.writing.Short.{Short}
 use Rattle.e3_node.specs.declared.fault.InputFault.{InputFault}
 use Rattle.e3_site.specs.SiteView.{SiteView}
 use Rattle.e3_site.specs.StandsAlike.{StandsAlike}

@@ -19,9 +19,9 @@ use Rattle.e3_node.specs.Batched.{HasPlanned, IsBatch}
 use Rattle.e3_node.specs.Batches.{FrameTakes, fall_over, unnumbered_steps, stepped}
 use Rattle.e3_node.specs.Bodies.{DiskTells, entries_at}
 use Rattle.e3_node.specs.Ending.{EndsWith}
-use Rattle.e3_site_log.specs.Bodies.{IsLogged, ReadsLeft}
-use Rattle.e3_site_log.specs.Ends.{HasRoom, HasRoomUnlessShort, IsBehind, IsPut, IsReason, IsShortIf, Takes, calls_for, size_of}
-use Rattle.e3_site_log.specs.declared.writing.Short.{Short}
+use Rattle.e3_node.specs.site_log.Bodies.{IsLogged, ReadsLeft}
+use Rattle.e3_node.specs.site_log.Ends.{HasRoom, HasRoomUnlessShort, IsBehind, IsPut, IsReason, IsShortIf, Takes, calls_for, size_of}
+use Rattle.e3_node.specs.declared.site_log.writing.Short.{Short}
 use Rattle.e3_node.specs.NodeStands.{IsUp, steps_at}
 use Rattle.e3_node.specs.Several.{MayEnterAll, claims_for, marks_in}
 use Rattle.e3_node.specs.Turns.{HasTurned, Meanwhile}
@@ -224,6 +224,7 @@ module _ {rose : List Record} {D0 : Type 0} (meters0 : D0 → Meters) (on_disk :
           let there : (note_of site (seen_by q)).places ≡ 0 + length steps = ap (λ (w : Note). w.places) note_q in
           omega (arith, n, long, there));
       room = (let none : 0 ≤ (note_of site (seen_by q)).room = omega arith in none);
+      few = omega arith;
     }
       where
         e : Entry

@@ -16,7 +16,7 @@ use Rattle.e3_node.specs.declared.rising.Raised.{Raised}
 use Rattle.e3_node.specs.declared.rising.Raised.TheVariants.{Risen, Failed, Missed, NoMemory, Foreign}
 use Rattle.e3_node.specs.declared.state.State.{State}
 use Rattle.e3_node.specs.declared.state.State.TheVariants.{Down, Up}
-use Rattle.e3_site_log.specs.Ends.{Takes}
+use Rattle.e3_node.specs.site_log.Ends.{Takes}
 use Rattle.e3_types.specs.declared.entries.Act.TheVariants.{Miss}
 use Rattle.e3_types.specs.declared.entries.Entry.{Entry}
 use Rattle.e3_types.specs.declared.entries.Why.{Why}

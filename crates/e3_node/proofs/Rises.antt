@@ -40,10 +40,10 @@ use Rattle.e3_node.specs.declared.state.State.TheVariants.{Down, Up}
 use Rattle.e3_site.specs.Rebuilt.{IsRebuilt}
 use Rattle.e3_site.specs.SiteView.{SiteView}
 use Rattle.e3_site.specs.StandsFor.{IsRisenWith}
-use Rattle.e3_site_log.specs.Bodies.{IsLogged, ReadsAs, ReadsLeft, bodies_in, joined}
-use Rattle.e3_site_log.specs.Ends.{IsFull, IsReason}
-use Rattle.e3_site_log.proofs.Frames.{spells}
-use Rattle.e3_site_log.proofs.Holding.{fronts, same_go_on}
+use Rattle.e3_node.specs.site_log.Bodies.{IsLogged, ReadsAs, ReadsLeft, bodies_in, joined}
+use Rattle.e3_node.specs.site_log.Ends.{IsFull, IsReason}
+use Rattle.e3_node.proofs.site_log.Frames.{spells}
+use Rattle.e3_node.proofs.site_log.Holding.{fronts, same_go_on}
 use Rattle.e3_site.proofs.Legal.{in_order}
 use Rattle.e3_types.specs.declared.entries.Entry.{Entry}
 use Rattle.e3_types.specs.declared.entries.Why.{Why}

@@ -1,5 +1,5 @@
 -- What is shared behind a claim, and behind the entry that it was made for.
-use Rattle.std.proofs.Common.{◌≡◌, ◌==◌, ◌||◌, ◌+◌, ◌-◌, ◌≤◌, ◌++◌, ◌∷◌, [], ℕ, suc, true, false, List, length, refl, sym, subst, ap, ◌∙◌, append-nil, append_assoc, arith, eq-eqb}
+use Rattle.std.proofs.Common.{◌≡◌, ◌==◌, ◌||◌, ◌+◌, ◌-◌, ◌^◌, ◌<◌, ◌≤◌, ◌++◌, ◌∷◌, [], ℕ, suc, true, false, List, length, refl, sym, subst, ap, ◌∙◌, append-nil, append_assoc, arith, eq-eqb}
 use Rattle.std.specs.Prelude.{Bool, Result, Ok, Err, OnOk}
 use Rattle.std.proofs.lemmas.List.Elements.{All-nil, All-cons}
 use Rattle.e3_laws.specs.local.Others.{Allows, numbered_on}
@@ -94,10 +94,10 @@ fall_uses owner outs before now inputs records why one claim =
 
 -- an allowed entry may be entered behind its claim
 pub may_enter : (before now : List Mark) (outs : ℕ) (e : Entry) → IsClaimed e.owner outs before now → 1 ≤ e.owner → Allows (scenario_of before) (entries_of before) e →
-    TakesInTurn (scenario_of before) (entries_of before) e.owner (inputs_of e.act) → length (outs_of e.act) ≤ outs → MayEnterBehind now e
-may_enter before now outs e claim site may takes few =
+    TakesInTurn (scenario_of before) (entries_of before) e.owner (inputs_of e.act) → length (outs_of e.act) ≤ outs → outs < 2 ^ 32 → MayEnterBehind now e
+may_enter before now outs e claim site may takes few small =
     let P : List Mark → Type 0 = λ l. MayEnterBehind l e in
-    subst P (sym claim.is) (claimed_entries_may_enter e outs before claim.stands.played site claim.exists may takes few)
+    subst P (sym claim.is) (claimed_entries_may_enter e outs before claim.stands.played site claim.exists may takes few small)
 
 pub has_entered : (before now after : List Mark) (outs : ℕ) (e : Entry) → IsClaimed e.owner outs before now → UsesAll now e →
     after ≡ now ++ mark.Entered (numbered_on (entries_of now) e) ∷ [] → IsPlayed after → HasEntered e before after

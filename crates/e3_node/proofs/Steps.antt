@@ -22,7 +22,7 @@ use Rattle.e3_node.specs.declared.state.State.{State}
 use Rattle.e3_node.specs.declared.state.State.TheVariants.{Down, Up}
 use Rattle.e3_play.specs.Entering.{fall_of}
 use Rattle.e3_site.specs.SiteView.{HasRoomFor, IsPlanOf, PlanView, SiteView, Stands as SiteStands, count_on, entry_of_plan, planned_step, step_kept, with_step}
-use Rattle.e3_site_log.specs.Bodies.{IsLogged, ReadsLeft}
+use Rattle.e3_node.specs.site_log.Bodies.{IsLogged, ReadsLeft}
 use Rattle.e3_site.specs.StandsAlike.{IsLogInOrder, now_with}
 use Rattle.e3_site.proofs.Alike.{on, opens, plans, still as stands_still}
 use Rattle.e3_readings.specs.Opens.{open_in}

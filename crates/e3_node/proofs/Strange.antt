@@ -15,8 +15,8 @@ use Rattle.e3_node.specs.Bodies.{ReadsTold, entries_at, log_with}
 use Rattle.e3_node.specs.Rising.{IsDisordered, IsForeign, MayRise, SomeIsBad, records_by}
 use Rattle.e3_node.specs.declared.readying.Wish.{Wish}
 use Rattle.e3_site.specs.Orderly.{IsFirstDisorder}
-use Rattle.e3_site_log.specs.Bodies.{bodies_in, body_of, joined}
-use Rattle.e3_site_log.proofs.Frames.{spells}
+use Rattle.e3_node.specs.site_log.Bodies.{bodies_in, body_of, joined}
+use Rattle.e3_node.proofs.site_log.Frames.{spells}
 use Rattle.e3_types.specs.declared.entries.Entry.{Entry}
 use Rattle.e3_types.specs.declared.records.Record.{Record}
 use Rattle.e3_types.specs.declared.scenarios.Scenario.{Scenario}

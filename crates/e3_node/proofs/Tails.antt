@@ -15,7 +15,7 @@ use Rattle.e3_types.specs.declared.records.Record.TheVariants as log
 use Rattle.e3_types.specs.declared.transactions.Dir.{Dir}
 use Rattle.e3_types.specs.declared.transactions.Txn.{Txn}
 use Rattle.e3_world.specs.Logs.{decision, decision_by, has_voted, is_vote, last_attempt, last_attempt_by, last_elected, last_elected_by, logged_inc, logged_inc_by}
-use Rattle.e3_site_log.proofs.Holding.{fronts}
+use Rattle.e3_node.proofs.site_log.Holding.{fronts}
 
 -- a fold keeps what each of its steps keeps
 fold_keeps : {A B : Type 0} (f : B → A → B) (P : B → Type 0) → ((b : B) (x : A) → P b → P (f b x)) → (b : B) (xs : List A) → P b → P (fold f b xs)

@@ -5,7 +5,7 @@ use Rattle.e3_world.specs.Orderly.{IsOrderly}
 use Rattle.e3_laws.specs.serial.Orderly.{TailsAreOrderly}
 use Rattle.e3_laws.specs.steps.Trails.{tail_records}
 use Rattle.e3_node.specs.Bodies.{IsKeptExactly, IsRead, entries_at, log_with}
-use Rattle.e3_site_log.specs.Bodies.{joined}
+use Rattle.e3_node.specs.site_log.Bodies.{joined}
 use Rattle.e3_node.specs.Told.{ReadingsAreTold, TailsAreTold}
 use Rattle.e3_types.specs.declared.entries.Act.{Act}
 use Rattle.e3_types.specs.declared.entries.Act.TheVariants.{Step, Fall, Rise, RiseFall, Miss, Cut, Drop, Parts, Line}

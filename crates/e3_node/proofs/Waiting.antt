@@ -29,7 +29,7 @@ use Rattle.e3_types.specs.declared.entries.Input.{Input}
 use Rattle.e3_types.specs.declared.records.Record.{Record}
 use Rattle.e3_types.specs.declared.scenarios.Scenario.{Scenario}
 use Rattle.e3_wire.specs.Claims.{APass}
-use Rattle.e3_wire.specs.Marks.{AreForeign, belongs, entries_of, last_owner, most_of, note_of, nothing, scenario_of, used_by, used_of}
+use Rattle.e3_wire.specs.Marks.{AreFew, AreForeign, belongs, entries_of, last_owner, most_of, note_of, nothing, scenario_of, used_by, used_of}
 use Rattle.e3_wire.specs.declared.marks.Note.{Note}
 use Rattle.e3_wire.specs.Wires.{IsPlayed, MayEnterBehind, TakesInTurn}
 use Rattle.e3_wire.specs.declared.fault.WireFault.{WireFault}
@@ -39,6 +39,7 @@ use Rattle.e3_wire.specs.declared.marks.Mark.TheVariants as mark
 use Rattle.e3_wire.proofs.Claimed.{claimed_entries_stay}
 use Rattle.e3_wire.proofs.Foreign.{entries_append, foreign_are_others, foreign_of_sites, notes_stay}
 use Rattle.e3_wire.proofs.Notes.{claim_promises, entry_uses, scenario_stays}
+use Rattle.e3_wire.proofs.Rooms.{few_back}
 use Rattle.e3_wire.proofs.Spending.{used_numbered}
 use Rattle.e3_wire.proofs.Staying.{are_others_marks}
 use Rattle.e3_world.specs.Items.{inputs_of, is_up_at}
@@ -260,7 +261,9 @@ may_commit p claimed outs e between owns grew front is was at_claim some exists 
     let P : List Mark → Type 0 = λ l. IsPlayed l in
     let Q : List Mark → Type 0 = λ l. MayEnterBehind l e in
     let first : IsPlayed (seen_by p ++ one.0) = subst P one.1 front in
-    subst Q (sym all) (claimed_entries_stay e outs (seen_by p) one.0 first one.2 some exists restless may takes few)
+    let R : List Mark → Type 0 = λ l. AreFew l in
+    let small = few_back (seen_by p ++ one.0) (mark.Place e.owner outs ∷ []) (subst R all at_claim.promises) in
+    subst Q (sym all) (claimed_entries_stay e outs (seen_by p) one.0 first one.2 some exists restless may takes few small.0)
 
 -- no recover step begins meanwhile
 pub still_restless : (p : APass) (claimed between : List Mark) (site outs : ℕ) → Owns p site → GrewByOthers belongs p between → IsPlayed between →

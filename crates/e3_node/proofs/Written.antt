@@ -12,8 +12,8 @@ use Rattle.e3_node.specs.NodeStands.{StandsBy}
 use Rattle.e3_node.specs.Telling.{IsOfSite}
 use Rattle.e3_node.specs.Turns.{Meanwhile}
 use Rattle.e3_site.specs.SiteView.{SiteView}
-use Rattle.e3_site_log.specs.Ends.{IsShortIf}
-use Rattle.e3_site_log.specs.declared.writing.Short.{Short}
+use Rattle.e3_node.specs.site_log.Ends.{IsShortIf}
+use Rattle.e3_node.specs.declared.site_log.writing.Short.{Short}
 use Rattle.e3_types.specs.declared.entries.Entry.{Entry}
 use Rattle.e3_types.specs.declared.entries.Input.{Input}
 use Rattle.e3_types.specs.declared.records.Record.{Record}

@@ -14,8 +14,8 @@ use Rattle.e3_node.specs.declared.briefing.Room.TheVariants as room
 use Rattle.e3_node.specs.declared.fault.InputFault.{InputFault}
 use Rattle.e3_node.specs.declared.fault.InputFault.TheVariants as input_fault
 use Rattle.e3_site.specs.SiteView.{SiteView}
-use Rattle.e3_site_log.specs.Ends.{HasRoom, HasRoomUnlessShort, IsShortIf, size_of}
-use Rattle.e3_site_log.specs.declared.writing.Short.{Short}
+use Rattle.e3_node.specs.site_log.Ends.{HasRoom, HasRoomUnlessShort, IsShortIf, size_of}
+use Rattle.e3_node.specs.declared.site_log.writing.Short.{Short}
 use Rattle.e3_site.specs.StandsAlike.{StandsAlike}
 use Rattle.e3_turn.specs.Passes.{GrewByOthers}
 use Rattle.e3_types.specs.Spelling.{spelling}

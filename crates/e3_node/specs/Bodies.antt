@@ -1,7 +1,7 @@
 -- What the disk of a site stands for in a history.
 use Rattle.std.specs.Prelude.{◌≡◌, ◌≢◌, ◌<◌, ◌^◌, ◌++◌, ◌↔◌, ℕ, Bool, true, nat_lt, List, Option, None, length}
 use Rattle.e3_disk.specs.Meaning.{Meaning}
-use Rattle.e3_site_log.specs.Bodies.{ReadsAs, joined}
+use Rattle.e3_node.specs.site_log.Bodies.{ReadsAs, joined}
 use Rattle.e3_types.specs.declared.entries.Entry.{Entry}
 use Rattle.e3_types.specs.declared.records.Record.{Record}
 use Rattle.e3_types.specs.declared.scenarios.Scenario.{Scenario}

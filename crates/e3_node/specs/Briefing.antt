@@ -8,9 +8,9 @@ use Rattle.e3_site.specs.StandsAlike.{StandsAlike}
 use Rattle.e3_node.specs.Telling.{IsOfSite}
 use Rattle.e3_places.specs.Keeping.{claims_at, txn_id}
 use Rattle.e3_site.specs.SiteView.{SiteView, Stands}
-use Rattle.e3_site.specs.Tables.{IsInOrder}
-use Rattle.e3_site_log.specs.Bodies.{counted}
-use Rattle.e3_site_log.specs.declared.writing.Short.{Short}
+use Rattle.e3_site.specs.TableBrief.{IsInOrder}
+use Rattle.e3_node.specs.site_log.Bodies.{counted}
+use Rattle.e3_node.specs.declared.site_log.writing.Short.{Short}
 use Rattle.e3_types.specs.declared.entries.Entry.{Entry}
 use Rattle.e3_types.specs.declared.entries.Input.{Input}
 use Rattle.e3_types.specs.declared.entries.Input.TheVariants as input

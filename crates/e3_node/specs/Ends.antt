@@ -24,8 +24,8 @@ use Rattle.e3_world.specs.Brief.{brief}
 use Rattle.e3_world.specs.Legal.{IsRise, made_by}
 use Rattle.e3_world.specs.Moves.{rise_records}
 use Rattle.e3_node.specs.Bodies.{IsKeptExactly, IsRead, log_with}
-use Rattle.e3_site_log.specs.Bodies.{joined}
-use Rattle.e3_site_log.specs.Ends.{HasRoom, IsBehind, IsReason, IsTurned, size_of}
+use Rattle.e3_node.specs.site_log.Bodies.{joined}
+use Rattle.e3_node.specs.site_log.Ends.{HasRoom, IsBehind, IsReason, IsTurned, size_of}
 
 -- A relation of the logs of a site that was up and is up.
 abbrev pub OnLogs : {D : Type 0} → (LogState D → LogState D → Type 0) → State D → State D → Type 0

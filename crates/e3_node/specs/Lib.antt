@@ -1,3 +1,4 @@
+pub mod site_log
 pub mod Bodies
 pub mod NodeView
 pub mod NodeStands

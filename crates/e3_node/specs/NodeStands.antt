@@ -9,7 +9,7 @@ use Rattle.e3_node.specs.declared.state.State.TheVariants.{Down, Up}
 use Rattle.e3_site.specs.StandsAlike.{IsLogInOrder, StandsAlike}
 use Rattle.e3_world.specs.Orderly.{IsOrderly}
 use Rattle.e3_site.specs.SiteView.{SiteView}
-use Rattle.e3_site_log.specs.Bodies.{IsLogged}
+use Rattle.e3_node.specs.site_log.Bodies.{IsLogged}
 use Rattle.e3_types.specs.declared.entries.Act.{Act}
 use Rattle.e3_types.specs.declared.entries.Act.TheVariants.{Step}
 use Rattle.e3_types.specs.declared.entries.Entry.{Entry}

@@ -22,7 +22,7 @@ use Rattle.e3_node.specs.declared.state.State.TheVariants.{Down, Up}
 use Rattle.e3_log.specs.Stands.{LogState}
 use Rattle.e3_site.specs.Rebuilt.{IsRebuilt, StandsForEach}
 use Rattle.e3_site.specs.SiteView.{SiteView}
-use Rattle.e3_site_log.specs.Ends.{IsReason, Takes}
+use Rattle.e3_node.specs.site_log.Ends.{IsReason, Takes}
 use Rattle.e3_types.specs.Spelling.{spelling}
 use Rattle.e3_types.specs.declared.entries.Act.TheVariants as act
 use Rattle.e3_types.specs.declared.entries.Entry.{Entry}

@@ -2,7 +2,7 @@
 use Rattle.std.specs.Prelude.{◌≡◌, ◌≢◌, ◌↔◌, ℕ, Bool, true, List, None}
 use Rattle.e3_world.specs.Brief.{brief}
 use Rattle.e3_node.specs.Bodies.{log_with}
-use Rattle.e3_site_log.specs.Bodies.{ReadsAs, joined}
+use Rattle.e3_node.specs.site_log.Bodies.{ReadsAs, joined}
 use Rattle.e3_types.specs.declared.entries.Entry.{Entry}
 use Rattle.e3_types.specs.declared.scenarios.Scenario.{Scenario}
 use Rattle.e3_world.specs.Given.{IsGiven}

@@ -8,19 +8,19 @@ ghost use Rattle.e3_node.specs.Briefing.{HasBody, IsBriefOf, IsReadBrief, asked_
 ghost use Rattle.e3_node.specs.declared.briefing.Room.TheVariants as room;
 ghost use Rattle.e3_node.specs.Telling.{IsOfSite};
 ghost use Rattle.e3_node.specs.declared.readying.Unready.TheVariants as unready;
-ghost use Rattle.e3_site_log.specs.Ends.{HasRoom, HasRoomUnlessShort, IsShortIf};
-ghost use Rattle.e3_site_log.specs.declared.writing.Short.{Short as Shorts};
+ghost use Rattle.e3_node.specs.site_log.Ends.{HasRoom, HasRoomUnlessShort, IsShortIf};
+ghost use Rattle.e3_node.specs.declared.site_log.writing.Short.{Short as Shorts};
 ghost use Rattle.e3_types.specs.declared.records.Record.{Record as Records};
 
 use crate::batching::Batch;
 use crate::fitting::spelled;
 use crate::readying::{Readied, Unready, Wish, rebuilt};
+use crate::site_log::Short;
 use e3_disk::Disk;
 use e3_log::Log;
 use e3_places::txn_id;
 use e3_readings::logged_inc;
-use e3_site::{Site, brief, of_site};
-use e3_site_log::Short;
+use e3_site::{Site, brief, brief_of_site};
 use e3_types::{Input, List, Message, NoMemory, Record, Txn};
 use std::alloc::Global;
 
@@ -55,7 +55,7 @@ pub(crate) fn shorten<D: Disk>(
     if records.is_empty() || log.fits(len) {
         return Ok(None);
     }
-    let records = of_site(alloc, site)?;
+    let records = brief_of_site(alloc, site)?;
     short_of(alloc, records.as_slice())
 }
 
@@ -69,7 +69,7 @@ fn brief_read(alloc: Global, site: u32, read: &[Record]) -> Result<List<Record>,
         return Ok(brief(alloc, read)?);
     }
     let before = rebuilt(alloc, site, read)?;
-    Ok(of_site(alloc, &before)?)
+    Ok(brief_of_site(alloc, &before)?)
 }
 
 /// What the log that a rise read is turned to, where the frame of the rise has no room behind it, and only there. An empty log

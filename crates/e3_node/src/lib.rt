@@ -13,6 +13,7 @@ mod node;
 mod reading;
 mod readying;
 mod rising;
+pub mod site_log;
 mod state;
 mod stepping;
 mod taking;

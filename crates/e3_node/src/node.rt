@@ -18,7 +18,7 @@ ghost use Rattle.e3_node.specs.declared.fault.InputFault.{InputFault as InputFau
 ghost use Rattle.e3_node.specs.declared.fault.InputFault.TheVariants as input_fault;
 ghost use Rattle.e3_node.specs.declared.fault.RiseFault.TheVariants as rise_fault;
 ghost use Rattle.e3_play.specs.Entering.{IsFirst};
-ghost use Rattle.e3_site_log.specs.Ends.{IsReason, Takes, calls_for};
+ghost use Rattle.e3_node.specs.site_log.Ends.{IsReason, Takes, calls_for};
 ghost use Rattle.e3_turn.specs.Passes.{seen_by};
 ghost use Rattle.e3_types.specs.declared.entries.Act.TheVariants as act;
 ghost use Rattle.e3_types.specs.declared.entries.Entry.{Entry as Entries};

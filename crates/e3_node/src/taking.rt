@@ -18,6 +18,7 @@ ghost use Rattle.e3_world.specs.Items.{is_up_at};
 
 use crate::batching::{Batch, enter_steps, plan_all};
 use crate::law::logs_are_sound;
+use crate::site_log::write;
 use crate::stepping::{fall_of, laid_down};
 use crate::turning::must_rest;
 use crate::{InputFault, State};
@@ -25,7 +26,6 @@ use core::mem::replace_with;
 use e3_disk::Disk;
 use e3_log::Log;
 use e3_site::Site;
-use e3_site_log::write;
 use e3_types::{Entry, Input, List, Record, Why};
 use e3_wire::{Wire, WirePass};
 use std::alloc::Global;

@@ -12,12 +12,12 @@ use Rattle.e3_play.proofs.Order.{add_parts}
 abbrev rounds_by : List Txn → List ℕ → List RecoveryRound
 rounds_by txns up = flat_map (λ t. round_of t (filter (has_site t.sites) up)) txns
 
-pub listed_parts : (sc : Scenario) (h : List Entry) (group up : List ℕ) (known txns : List Txn) → up ≡ filter (is_up_at h) group →
-    known ≡ flat_map (λ s. fold add_txn [] (open_at sc h s)) (filter (is_up_at h) group) → txns ≡ fold add_txn [] known →
-    flat_map (λ t. round_of t (filter (has_site t.sites) up)) txns ≡ listed sc h group
-listed_parts sc h group up known txns is_up is_known in_order =
-    ap (rounds_by txns) is_up
-    ∙ ap (λ l. rounds_by l (filter (is_up_at h) group)) (in_order ∙ ap (fold add_txn []) is_known ∙ add_parts [] (open_at sc h) (filter (is_up_at h) group))
+pub listed_parts : (sc : Scenario) (h : List Entry) (group up : List ℕ) (known : List Txn) → up ≡ filter (is_up_at h) group →
+    known ≡ flat_map (λ s. fold add_txn [] (open_at sc h s)) (filter (is_up_at h) group) →
+    flat_map (λ t. round_of t (filter (has_site t.sites) up)) (fold add_txn [] known) ≡ listed sc h group
+listed_parts sc h group up known is_up is_known =
+    ap (rounds_by (fold add_txn [] known)) is_up
+    ∙ ap (λ l. rounds_by l (filter (is_up_at h) group)) (ap (fold add_txn []) is_known ∙ add_parts [] (open_at sc h) (filter (is_up_at h) group))
 
 -- what holds of a result holds of one that is equal to it
 pub if_ok : {E : Type 0} (r : Result (List RecoveryRound) E) (xs ys : List RecoveryRound) → xs ≡ ys → IfOk r (λ rounds. rounds ≡ xs) → IfOk r (λ rounds. rounds ≡ ys)

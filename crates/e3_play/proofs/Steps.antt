@@ -16,7 +16,7 @@ use Rattle.e3_world.proofs.Guards.{step_through}
 use Rattle.e3_world.proofs.Lines.{end_step, lines_to}
 use Rattle.e3_world.proofs.Readings.{since_push, taken_other, taken_same}
 use Rattle.e3_play.proofs.DueRises.{parts_open}
-use Rattle.e3_play.specs.Played.{IsAsked, IsFresh, IsSettled, parts_asked}
+use Rattle.e3_play.specs.Played.{IsAsked, IsFresh, IsSettled}
 use Rattle.e3_play.specs.Delivered.{IsFull, TheParts}
 use Rattle.e3_play.specs.Settled.{StaysInStep, is_asking, is_parted}
 use Rattle.e3_play.proofs.DuePackets.{bounded}
@@ -46,27 +46,26 @@ group_unparted (item.Crash site ∷ xs) group alone = cc
 group_unparted (item.Restart site ∷ xs) group alone = cc
 group_unparted (item.Stop site count leave ∷ xs) group alone = cc
 
--- what a step asks, by the parts that it sets
-pub asks_parts : (sc : Scenario) (items : List Item) (parts : List (List ℕ)) → parts_asked sc items ≡ Some parts →
-    (is_parted items ≡ true) × (parts_due sc items ≡ Some parts)
-asks_parts sc [] parts is = absurd cc
-asks_parts sc (item.Split own ∷ []) parts is = (refl, is)
-asks_parts sc (item.Merge ∷ []) parts is = (refl, is)
-asks_parts sc (item.Split own ∷ x ∷ xs) parts is = absurd cc
-asks_parts sc (item.Merge ∷ x ∷ xs) parts is = absurd cc
-asks_parts sc (item.Begin name site sites ∷ xs) parts is = absurd cc
-asks_parts sc (item.Read name key ∷ xs) parts is = absurd cc
-asks_parts sc (item.Write name key val ∷ xs) parts is = absurd cc
-asks_parts sc (item.Commit name ∷ xs) parts is = absurd cc
-asks_parts sc (item.Cancel name ∷ xs) parts is = absurd cc
-asks_parts sc (item.Expire site name ∷ xs) parts is = absurd cc
-asks_parts sc (item.Elect site name sites ∷ xs) parts is = absurd cc
-asks_parts sc (item.Recover sites ∷ xs) parts is = absurd cc
-asks_parts sc (item.Crash site ∷ xs) parts is = absurd cc
-asks_parts sc (item.Restart site ∷ xs) parts is = absurd cc
-asks_parts sc (item.Stop site count leave ∷ xs) parts is = absurd cc
+-- a step that sets parts is a split or a merge alone
+pub is_parted_by : (sc : Scenario) (items : List Item) (parts : List (List ℕ)) → is_asking items ≡ true → parts_due sc items ≡ Some parts → is_parted items ≡ true
+is_parted_by sc [] parts played is = absurd cc
+is_parted_by sc (item.Split own ∷ []) parts played is = refl
+is_parted_by sc (item.Merge ∷ []) parts played is = refl
+is_parted_by sc (item.Split own ∷ x ∷ xs) parts played is = absurd cc
+is_parted_by sc (item.Merge ∷ x ∷ xs) parts played is = absurd cc
+is_parted_by sc (item.Begin name site sites ∷ xs) parts played is = absurd cc
+is_parted_by sc (item.Read name key ∷ xs) parts played is = absurd cc
+is_parted_by sc (item.Write name key val ∷ xs) parts played is = absurd cc
+is_parted_by sc (item.Commit name ∷ xs) parts played is = absurd cc
+is_parted_by sc (item.Cancel name ∷ xs) parts played is = absurd cc
+is_parted_by sc (item.Expire site name ∷ xs) parts played is = absurd cc
+is_parted_by sc (item.Elect site name sites ∷ xs) parts played is = absurd cc
+is_parted_by sc (item.Recover sites ∷ xs) parts played is = absurd cc
+is_parted_by sc (item.Crash site ∷ xs) parts played is = absurd cc
+is_parted_by sc (item.Restart site ∷ xs) parts played is = absurd cc
+is_parted_by sc (item.Stop site count leave ∷ xs) parts played is = absurd cc
 
-pub asks_items : (sc : Scenario) (items : List Item) → is_asking items ≡ true → parts_asked sc items ≡ None → list_all is_groupable items ≡ true
+pub asks_items : (sc : Scenario) (items : List Item) → is_asking items ≡ true → parts_due sc items ≡ None → list_all is_groupable items ≡ true
 asks_items sc [] played is = refl
 asks_items sc (item.Split parts ∷ []) played is = absurd cc
 asks_items sc (item.Merge ∷ []) played is = absurd cc
@@ -85,16 +84,16 @@ asks_items sc (item.Restart site ∷ xs) played is = played
 asks_items sc (item.Stop site count leave ∷ xs) played is = played
 
 -- the parts are due
-pub parts_are_due : (sc : Scenario) (h : List Entry) (items : List Item) (parts : List (List ℕ)) → IsFresh sc h items → parts_asked sc items ≡ Some parts →
+pub parts_are_due : (sc : Scenario) (h : List Entry) (items : List Item) (parts : List (List ℕ)) → IsFresh sc h items → parts_due sc items ≡ Some parts →
     IsParts sc h parts
-parts_are_due sc h items parts was is = record { behind_line = was.fresh; due = ap (parts_due sc) was.present ∙ (asks_parts sc items parts is).1 }
+parts_are_due sc h items parts was is = record { behind_line = was.fresh; due = ap (parts_due sc) was.present ∙ is }
 
 -- and the history is full
-pub parts_full : (sc : Scenario) (h : List Entry) (items : List Item) (parts : List (List ℕ)) (most : ℕ) → IsFresh sc h items → parts_asked sc items ≡ Some parts →
+pub parts_full : (sc : Scenario) (h : List Entry) (items : List Item) (parts : List (List ℕ)) (most : ℕ) → IsFresh sc h items → is_asking items ≡ true → parts_due sc items ≡ Some parts →
     length h ≤ most → most ≤ length h → IsFull sc h most
-parts_full sc h items parts most was is few many =
+parts_full sc h items parts most was form is few many =
     bounded sc h most few many (TheParts parts (parts_are_due sc h items parts was is))
-    (parts_open sc h items was.begun was.present (asks_parts sc items parts is).0 was.fresh)
+    (parts_open sc h items was.begun was.present (is_parted_by sc items parts form is) was.fresh)
 
 -- behind them
 pub parts_entered : (sc : Scenario) (h next : List Entry) (items : List Item) (parts : List (List ℕ)) → IsFresh sc h items →
@@ -113,7 +112,7 @@ parts_entered sc h next items parts was entered = record {
     by s false is = taken_other h e s refl is ∙ none_taken h s was.fresh
 
 -- no parts are asked for
-pub no_parts : (sc : Scenario) (h : List Entry) (items : List Item) → IsFresh sc h items → is_asking items ≡ true → parts_asked sc items ≡ None → IsAsked h h items
+pub no_parts : (sc : Scenario) (h : List Entry) (items : List Item) → IsFresh sc h items → is_asking items ≡ true → parts_due sc items ≡ None → IsAsked h h items
 no_parts sc h items was form none = record {
   grown = stays_none h;
   fresh = λ s. none_taken h s was.fresh;

@@ -145,7 +145,7 @@ is_turn sc start h more group r rest report at = record {
     silent nothing true is = is
     silent nothing false is =
         let ends : RoundEnds sc h all.entered r = all.ends is in
-        absurd (some_told report.verdict ends.said (told ∙ one_is_told r all.entered ends.said ends.one) nothing)
+        absurd (some_told report.verdict ends.concluded (told ∙ one_is_told r all.entered ends.concluded ends.one) nothing)
 
 -- what a round at its turn leaves of the sites that were up
 pub turn_up : (sc : Scenario) (start h more : List Entry) (r : RecoveryRound) → UpOrFell start h → AfterRound sc h r more → UpOrFell start more

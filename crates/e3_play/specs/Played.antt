@@ -7,7 +7,7 @@ use Rattle.e3_types.specs.declared.scenarios.Item.TheVariants as item
 use Rattle.e3_types.specs.declared.scenarios.Scenario.{Scenario}
 use Rattle.e3_world.specs.Items.{plan_of, since_line, taken_at}
 use Rattle.e3_world.specs.Legal.{IsLegal, begins_with_parts, is_through}
-use Rattle.e3_world.specs.Packets.{all_sites, lines, pending, present_items}
+use Rattle.e3_world.specs.Packets.{lines, pending, present_items}
 use Rattle.e3_world.specs.Progress.{Delivering}
 use Rattle.e3_world.specs.declared.names.Addressed.{Addressed}
 
@@ -22,12 +22,6 @@ StandsAlone sc _ = ⊥
 -- a step of a scenario that keeps the rules
 abbrev pub IsStep : Scenario → List Item → Type 0
 IsStep sc items = (is_asking items ≡ true) ⊎ StandsAlone sc items
-
--- the parts that it sets
-abbrev pub parts_asked : Scenario → List Item → Option (List (List ℕ))
-parts_asked sc (item.Split parts ∷ []) = Some parts
-parts_asked sc (item.Merge ∷ []) = Some (all_sites sc ∷ [])
-parts_asked sc items = None
 
 -- the parts that the step asks for are set, and the sites have taken nothing of it yet
 pub record IsAsked (start history : List Entry) (items : List Item) : Type 0 where

@@ -35,7 +35,7 @@ later was verdict = Some verdict
 
 -- the verdict, where this site told it; else the one before
 abbrev pub later_of : ℕ → Option Verdict → ToldVerdict → Option Verdict
-later_of site was said = if said.site == site then Some said.verdict else was
+later_of site was told = if told.site == site then Some told.verdict else was
 
 -- the verdict on a round's transaction that its elector tells in these entries, if it tells one: the last
 abbrev pub verdict_of : RecoveryRound → List Entry → Option Verdict

@@ -8,7 +8,6 @@ mod delivering;
 mod kinds;
 mod listing;
 mod names;
-mod parting;
 mod playing;
 mod recovering;
 mod reporting;

@@ -4,7 +4,7 @@ ghost use Rattle.std.specs.List.{flat_map};
 ghost use Rattle.e3_world.specs.Items.{add_txn, is_up_at, listed, open_at};
 
 use crate::Sites;
-use e3_readings::{RecoveryRound, in_order, rounds_of};
+use e3_readings::{RecoveryRound, rounds_of};
 use e3_types::{List, NoMemory, SiteSet, Txn};
 use std::alloc::Global;
 
@@ -49,6 +49,5 @@ pub(crate) fn listed<S: Sites>(
 {
     let up = up_in(alloc, sites, group)?;
     let open = open_of(alloc, sites, group)?;
-    let txns = in_order(alloc, open.as_slice())?;
-    rounds_of(alloc, txns.as_slice(), up.as_slice())
+    rounds_of(alloc, open.as_slice(), up.as_slice())
 }

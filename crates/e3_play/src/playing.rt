@@ -13,9 +13,8 @@ ghost use Rattle.e3_world.specs.Packets.{lines, step_items};
 use crate::alone::{crash, recovery, restart};
 use crate::kinds::{Kind, kind_of};
 use crate::names::Names;
-use crate::parting::parts_asked;
 use crate::{RunFault, Sites};
-use e3_readings::{inputs_asked, step_items};
+use e3_readings::{inputs_asked, parts_due, step_items};
 use e3_types::{Item, List, Scenario, SiteSet};
 use e3_world::Addressed;
 use std::alloc::Global;
@@ -36,7 +35,7 @@ fn set_parts<S: Sites>(
     ensures kept { OnErr result (S.entries sites.new ≡ S.entries sites.old) }
     ensures full { result ≡ Err HistoryFull → IsFull scenario.now (S.entries sites.new) (S.most sites.old) }
 {
-    match parts_asked(alloc, scenario, items)? {
+    match parts_due(alloc, scenario, items)? {
         Some(parts) => sites.parts(parts),
         None => Ok(()),
     }

@@ -48,6 +48,6 @@ pub use own::{last_own, own_write};
 pub use places::{SiteRecord, add_placed};
 pub use recovery_rounds::{RecoveryRound, rounds_of};
 pub use rounds::{Rounds, round_in_progress};
-pub use steps::{is_line, step_items};
+pub use steps::{is_line, parts_due, step_items};
 pub use tables::{install_op, row_value, rows_at, set_row, table_of};
 pub use votes::{have_every_yes, votes_after, votes_in};

@@ -1,9 +1,11 @@
-// The rounds of a recovery step, for transactions in the order in which they are taken.
-ghost use Rattle.std.specs.Prelude.{◌≡◌, ◌++◌, filter, IfOk};
+// The rounds of a recovery step.
+ghost use Rattle.std.specs.Prelude.{◌≡◌, ◌++◌, [], filter, fold, IfOk};
 ghost use Rattle.std.specs.List.{flat_map};
 ghost use Rattle.e3_readings.specs.RoundOf.{round_of};
 ghost use Rattle.e3_types.specs.Sets.{has_site};
+ghost use Rattle.e3_world.specs.Items.{add_txn};
 
+use crate::opens::in_order;
 use e3_types::{List, NoMemory, SiteSet, Txn};
 use std::alloc::Global;
 use std::marker::Model;
@@ -53,8 +55,8 @@ fn add_round(t: &Txn, members: &[u32], out: &mut List<RecoveryRound>) -> Result<
     }
 }
 
-/// The rounds of these transactions, one after the other, by the sites that are up: none of one that none of them is a site of.
-pub fn rounds_of(alloc: Global, txns: &[Txn], up: &[u32]) -> Result<List<RecoveryRound>, NoMemory>
+// The rounds of these transactions, one after the other, by the sites that are up.
+fn rounds_in_turn(alloc: Global, txns: &[Txn], up: &[u32]) -> Result<List<RecoveryRound>, NoMemory>
     ensures { IfOk result (λ rounds. rounds ≡ flat_map (λ t. round_of t (filter (has_site t.sites) up.now)) txns.now) }
 {
     let mut rounds = List::new(alloc);
@@ -63,4 +65,13 @@ pub fn rounds_of(alloc: Global, txns: &[Txn], up: &[u32]) -> Result<List<Recover
         add_round(t, members.as_slice(), &mut rounds)?;
     }
     Ok(rounds)
+}
+
+/// The rounds of a recovery step, where these transactions are open and these members of its group are up: one for each
+/// transaction, in ascending order; none of one that none of these is a site of. Want of memory is the only error.
+pub fn rounds_of(alloc: Global, open: &[Txn], up: &[u32]) -> Result<List<RecoveryRound>, NoMemory>
+    ensures { IfOk result (λ rounds. rounds ≡ flat_map (λ t. round_of t (filter (has_site t.sites) up.now)) (fold add_txn [] open.now)) }
+{
+    let txns = in_order(alloc, open)?;
+    rounds_in_turn(alloc, txns.as_slice(), up)
 }

@@ -1,8 +1,11 @@
 // The steps of a scenario, and the lines that begin them in a history.
-ghost use Rattle.std.specs.Prelude.{◌≡◌};
+ghost use Rattle.std.specs.Prelude.{◌≡◌, IfOk};
+ghost use Rattle.e3_world.specs.Legal.{parts_due};
 ghost use Rattle.e3_world.specs.Packets.{is_line, step_items};
 
-use e3_types::{Act, Entry, Item, Scenario};
+use e3_types::{Act, Copied, Entry, Item, List, NoMemory, Scenario, SiteSet};
+use e3_world::all_sites;
+use std::alloc::Global;
 
 /// The items of the step with this number, counted from 1; none where there is no such step.
 #[tactic(auto, using(crate::proofs::StepItems::items_from))]
@@ -23,4 +26,24 @@ pub fn is_line(entry: &Entry) -> bool
     ensures { result ≡ is_line entry.now }
 {
     matches!(entry.act, Act::Line { .. })
+}
+
+/// The parts of the network that a split or a merge asks for, which begins a step. Want of memory is the only error; a
+/// merge of more than 64 sites, which no set of sites can name, is said to want it.
+pub fn parts_due(
+    alloc: Global,
+    scenario: &Scenario,
+    items: &[Item],
+) -> Result<Option<List<SiteSet>>, NoMemory>
+    ensures { IfOk result (λ due. due ≡ parts_due scenario.now items.now) }
+{
+    match items {
+        [Item::Split { parts }, ..] => Ok(Some(parts.copied(alloc)?)),
+        [Item::Merge, ..] => {
+            let mut parts = List::new(alloc);
+            parts.push(all_sites(scenario)?)?;
+            Ok(Some(parts))
+        }
+        _ => Ok(None),
+    }
 }

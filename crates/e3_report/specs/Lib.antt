@@ -9,4 +9,5 @@ pub mod Walk
 pub mod Tables
 pub mod Summary
 pub mod Tallies
+pub mod Pages
 pub mod lines

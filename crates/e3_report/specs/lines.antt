@@ -7,4 +7,3 @@ pub mod Events
 pub mod Inputs
 pub mod Messages
 pub mod Entries
-pub mod Pages

@@ -1,5 +1,5 @@
 //! The report of a scenario and its history: the text that a run writes. The lines that it is made of, and those of a trace,
-//! stand in `lines`.
+//! stand in `lines`; what a program of the gate prints is a `Page`.
 #![tactic(auto)]
 
 mod counts;
@@ -10,6 +10,7 @@ pub mod lines;
 mod logs;
 mod names;
 mod orders;
+mod page;
 mod sites;
 mod skips;
 mod steps;
@@ -20,5 +21,6 @@ mod tallies;
 mod ups;
 mod whole;
 
+pub use page::Page;
 pub use summing::summary;
 pub use whole::report;

@@ -59,7 +59,10 @@ fn items(
 ) -> Result<Read<List<Item>>, NoMemory>
     ensures { IfOk result (λ read. with_so_far so_far.new read ≡ items_read all step grouped so_far.old [] (map view values.now)) }
 {
-    let mut items = List::new(alloc);
+    let Ok(room) = Vec::with_capacity(alloc, values.len()) else {
+        return Err(NoMemory);
+    };
+    let mut items = List::from_vec(room);
     for value in values {
         let spelled = item_in(alloc, value)?;
         match judged(all, step, grouped, so_far, spelled) {

@@ -23,7 +23,7 @@ use Rattle.e3_laws.specs.serial.Orderly.{LogsAreOrderly}
 use Rattle.e3_laws.specs.steps.Trails.{TrailsAreSound}
 use Rattle.e3_site.specs.SiteView.{SiteView}
 use Rattle.e3_site.specs.StandsAlike.{StandsAlike, now_with}
-use Rattle.e3_site.specs.Tables.{IsInOrder}
+use Rattle.e3_site.specs.TableBrief.{IsInOrder}
 use Rattle.e3_site.proofs.Legal.{in_order}
 
 -- steps leave the incarnation of a life

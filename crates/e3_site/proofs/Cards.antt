@@ -39,7 +39,7 @@ use Rattle.e3_places.specs.declared.keys.TxnId.{TxnId as PlaceKey}
 use Rattle.e3_places.specs.declared.places.Claims.{Claims}
 use Rattle.e3_places.specs.Keeping.{claims_at, txn_id as place_key}
 use Rattle.e3_places.specs.Standing.{cast_of, claims_of, is_of, is_open, voted, votes_of}
-use Rattle.e3_site.specs.Tables.{KeyFits, card_notes, op_of, ops_at, seen_notes, txn_of}
+use Rattle.e3_site.specs.TableBrief.{KeyFits, card_notes, op_of, ops_at, seen_notes, txn_of}
 use Rattle.e3_site.proofs.Merging.{Ascending, Below, Covers, among, flat_keys, none_at, same_given, sorted_ascends}
 
 -- the order of keys tells all of them apart

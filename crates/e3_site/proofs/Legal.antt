@@ -23,7 +23,7 @@ use Rattle.e3_laws.proofs.serial.Site.Sites.{AllKeep, SiteKeeps, all_keep, move_
 use Rattle.e3_laws.proofs.serial.Told.Whole.{all_stand}
 use Rattle.e3_laws.specs.steps.Trails.{TrailsAreSound}
 use Rattle.e3_world.specs.Transactions.{IsFoundByBits}
-use Rattle.e3_site.specs.Tables.{IsInOrder}
+use Rattle.e3_site.specs.TableBrief.{IsInOrder}
 use Rattle.e3_site.proofs.Fronts.{rest_weights}
 use Rattle.e3_laws.proofs.brief.Sets.{txns_known}
 

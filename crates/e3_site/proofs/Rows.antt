@@ -23,7 +23,7 @@ use Rattle.e3_world.specs.Orderly.{names_ascend}
 use Rattle.e3_places.specs.declared.places.Place.{Place}
 use Rattle.e3_places.specs.Keeping.{at_name, bare, place_at}
 use Rattle.e3_places.specs.Standing.{place_of}
-use Rattle.e3_site.specs.Tables.{row_at, row_in}
+use Rattle.e3_site.specs.TableBrief.{row_at, row_in}
 use Rattle.e3_site.proofs.Merging.{Ascending, Below, among, below_more, covers_all, flat_keys, none_at, same_given, sorted_ascends}
 
 abbrev cmp : List ℕ → List ℕ → Ordering

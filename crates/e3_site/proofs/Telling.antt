@@ -18,7 +18,7 @@ use Rattle.e3_cards.specs.Tables.{key_cmp}
 use Rattle.e3_places.specs.Keeping.{at_name}
 use Rattle.e3_site.specs.declared.past.tables.Tables.{Tables}
 use Rattle.e3_site.specs.past.Standing.{TablesStand}
-use Rattle.e3_site.specs.Tables.{IsInOrder, KeyFits, brief_by, card_notes, front_by, row_at}
+use Rattle.e3_site.specs.TableBrief.{IsInOrder, KeyFits, brief_by, card_notes, front_by, row_at}
 use Rattle.e3_site.proofs.Cards.{cards_told}
 use Rattle.e3_site.proofs.Fronts.{born_one}
 use Rattle.e3_site.proofs.Rows.{rows_told}

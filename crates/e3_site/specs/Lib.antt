@@ -5,6 +5,6 @@ pub mod AlikeLaws
 pub mod Orderly
 pub mod Reading
 pub mod Rebuilt
-pub mod Tables
-pub mod Snapshot
+pub mod TableBrief
+pub mod SiteBrief
 pub mod past

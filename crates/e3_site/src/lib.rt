@@ -15,8 +15,8 @@ pub mod past;
 mod plan;
 mod rebuilding;
 mod site;
-mod snapshot;
-mod tables;
+mod site_brief;
+mod table_brief;
 
 pub use briefs::brief;
 pub use disorder::first_disorder;
@@ -24,5 +24,4 @@ pub use laws::{alike_sites_do_the_same, alike_sites_stay_alike};
 pub use plan::Plan;
 pub use rebuilding::{RebuildFault, rebuild};
 pub use site::Site;
-pub use snapshot::of_site;
-pub use tables::of_tables;
+pub use site_brief::brief_of_site;

@@ -1,7 +1,7 @@
 // What a brief has of one transaction.
 ghost use Rattle.std.specs.Prelude.{◌≡◌, ◌++◌, IfOk};
 ghost use Rattle.e3_world.specs.Brief.{attempt_in, decision_in, join_in, noted, open_ops, vote_in};
-ghost use Rattle.e3_site.specs.Tables.{seen_notes};
+ghost use Rattle.e3_site.specs.TableBrief.{seen_notes};
 
 use e3_cards::Seen;
 use e3_readings::{

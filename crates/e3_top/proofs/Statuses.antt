@@ -1,7 +1,7 @@
 -- Which statuses come for words that spell no command, and for those of each command.
 use Rattle.std.proofs.Common.{◌≡◌, ◌≢◌, ◌≤◌, ◌⊎◌, inl, inr, ℕ, Bool, List, Ok, Err, refl, sym, subst, ◌∙◌, arith, zero, suc, String, Global}
 use Rattle.std.specs.Prelude.{IfOk, Result}
-use Rattle.e3_check.specs.Claims.{IsVerdict}
+use Rattle.e3_trace.specs.verdicts.Claims.{IsVerdict}
 use Rattle.e3_top.proofs.Spelled.{run_no_gen, run_no_drill, run_no_check, gen_no_drill, gen_no_check, drill_no_check}
 use Rattle.e3_top.specs.Outcomes.{HasText, IsAsked, IsTextOf}
 use Rattle.e3_top.specs.Words.{IsRun, IsGen, IsDrill, IsCheck, MayEnd}

@@ -1,7 +1,7 @@
 -- What is due for the words `check`, and what of the source was read.
 use Rattle.std.proofs.Common.{◌≡◌, ◌≢◌, ◌<◌, ◌⊎◌, inl, inr, ℕ, List, length, Option, refl, sym, subst, ◌∙◌, arith, String, Global}
 use Rattle.std.specs.Io.KnownBytes.{IsAtEnd}
-use Rattle.e3_check.specs.Claims.{IsFor, IsVerdict, HasLegal, HasIllegal, HasNoScenario}
+use Rattle.e3_trace.specs.verdicts.Claims.{IsFor, IsVerdict, HasLegal, HasIllegal, HasNoScenario}
 use Rattle.e3_disk.specs.Meaning.{Meaning}
 use Rattle.e3_top.specs.Outcomes.{HasText, IsOutcome, IsChecked}
 use Rattle.e3_top.specs.Ends.{IsPrepared}

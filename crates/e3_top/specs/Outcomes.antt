@@ -1,7 +1,7 @@
 -- The text that words, bytes and history give, with the status that a run ends with when it is written.
 use Rattle.std.specs.Prelude.{◌≡◌, ◌≤◌, ◌⊎◌, ℕ, List, [], String, Ok, Err, length}
 use Rattle.std.specs.declared.alloc.Global.{Global}
-use Rattle.e3_check.specs.Claims.{IsVerdict}
+use Rattle.e3_trace.specs.verdicts.Claims.{IsVerdict}
 use Rattle.e3_disk.specs.Meaning.{Meaning}
 use Rattle.e3_fleet.specs.Over.{AreBlank, AreOver}
 use Rattle.e3_gen.specs.Generated.{generated, generated_scenario}

@@ -6,9 +6,9 @@ ghost use Rattle.e3_top.specs.declared.commands.Command.TheVariants.{Check};
 
 use crate::preparing::{Prepared, Response, Stop, unprepared};
 use crate::stage::Stage;
-use e3_check::check;
 use e3_disk::{Disk, Drill};
 use e3_outside::{ReadFault, Source, read_up_to};
+use e3_trace::verdicts::check;
 use e3_types::NoMemory;
 
 /// One byte more than a scenario with its trace has at most.

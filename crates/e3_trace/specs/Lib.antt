@@ -1,3 +1,4 @@
+pub mod verdicts
 pub mod Cuts
 pub mod Fields
 pub mod Inputs

@@ -19,6 +19,7 @@ mod reading;
 mod records;
 mod spare;
 mod trace;
+pub mod verdicts;
 
 pub use faults::TraceFault;
 pub use laws::traces_read_back;

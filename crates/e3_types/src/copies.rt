@@ -67,7 +67,10 @@ impl<T: Copied + Drop> List<T> {
     pub fn of_copies(alloc: Global, items: &[T]) -> Result<List<T>, NoMemory>
         ensures { IfOk result (λ list. list ≡ items.now) }
     {
-        let mut list = List::new(alloc);
+        let Ok(room) = Vec::with_capacity(alloc, items.len()) else {
+            return Err(NoMemory);
+        };
+        let mut list = List::from_vec(room);
         list.add_copies(alloc, items)?;
         Ok(list)
     }

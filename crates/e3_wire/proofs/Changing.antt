@@ -1,5 +1,5 @@
 -- Marks that enter nothing, and change what is promised to one owner alone.
-use Rattle.std.proofs.Common.{◌≡◌, ◌==◌, ◌+◌, ◌^◌, ◌<◌, ◌≤◌, ℕ, false, List, [], ◌∷◌, ◌++◌, append-nil, length, set, ◌∙◌, ap, sym, subst, refl, arith}
+use Rattle.std.proofs.Common.{◌≡◌, ◌==◌, ◌+◌, ◌≤◌, ℕ, false, List, [], ◌∷◌, ◌++◌, append-nil, length, set, ◌∙◌, ap, sym, subst, refl, arith}
 use Rattle.std.proofs.lemmas.Bool.{ne_eqb}
 use Rattle.e3_types.specs.declared.entries.Entry.{Entry}
 use Rattle.e3_types.specs.declared.scenarios.Scenario.{Scenario}
@@ -11,16 +11,18 @@ use Rattle.e3_wire.specs.declared.marks.Mark.{Mark}
 use Rattle.e3_wire.specs.declared.marks.Mark.TheVariants as mark
 use Rattle.e3_wire.specs.declared.marks.Note.{Note}
 use Rattle.e3_wire.specs.declared.marks.Stored.{Stored}
-use Rattle.e3_wire.specs.Marks.{entries_of, last_owner, most_of, note_of, promised, rooms, total, used_of}
+use Rattle.e3_wire.specs.Marks.{AreFew, entries_of, last_owner, most_of, note_of, promised, rooms, total, used_of}
 use Rattle.e3_wire.specs.Stores.{AreNotes, IsKept, count_stored, marks_from, marks_of}
 use Rattle.e3_wire.specs.Wires.{IsPlayed, WireStands}
 use Rattle.e3_wire.proofs.Foreign.{entries_append}
 use Rattle.e3_wire.proofs.Noting.{sets}
+use Rattle.e3_wire.proofs.Rooms.{few_append}
 use Rattle.e3_wire.proofs.Sums.{one_changes}
 
 -- such marks behind others, and the note that the owner has then
 pub record Changes (o : ℕ) (w : Note) (marks more : List Mark) : Type 0 where
   pub enters : entries_of more ≡ []
+  pub few : AreFew more
   pub own : note_of o (marks ++ more) ≡ w
   pub others : (u : ℕ) → (u == o) ≡ false → note_of u (marks ++ more) ≡ note_of u marks
 
@@ -54,6 +56,7 @@ played_on sc most rest more o w was low is few = record {
   legal = subst (IsLegal sc) (sym (same_entries o w (mark.Start sc most ∷ rest) more is)) was.legal;
   within = within;
   few = was.few;
+  promises = few_append (mark.Start sc most ∷ rest) more was.promises is.few;
 }
   where
     within : used_of ((mark.Start sc most ∷ rest) ++ more) ≤ most
@@ -85,9 +88,9 @@ pub kept_on : (sc : Scenario) (most : ℕ) (es : List Entry) (ms new : List Stor
     IsKept sc most es ms net notes places room spare hr sr nr → o ≤ length sc.weights → marks_from sc most es new ≡ marks_from sc most es ms ++ more → count_stored new ≡ count_stored ms →
     Changes o w (marks_from sc most es ms) more → used_of (marks_from sc most es ms) + w.places ≤ most + (note_of o (marks_from sc most es ms)).places →
     places2 + (note_of o (marks_from sc most es ms)).places ≡ places + w.places → room2 + (note_of o (marks_from sc most es ms)).room ≡ room + w.room →
-    places2 ≤ spare2 → spare2 ≤ hr2 → length new + places2 ≤ sr2 → room2 ≤ nr2 → net.sent + room2 < 2 ^ 64 →
+    places2 ≤ spare2 → spare2 ≤ hr2 → length new + places2 ≤ sr2 → room2 ≤ nr2 →
     IsKept sc most es new net (set notes o w) places2 room2 spare2 hr2 sr2 nr2
-kept_on sc most es ms new net notes places room spare hr sr nr o w more places2 room2 spare2 hr2 sr2 nr2 was low marks_are count is few places_move room_moves for_entries spare_is for_marks for_packets counted = record {
+kept_on sc most es ms new net notes places room spare hr sr nr o w more places2 room2 spare2 hr2 sr2 nr2 was low marks_are count is few places_move room_moves for_entries spare_is for_marks for_packets = record {
   stands = (let P : List Mark → Type 0 = λ l. WireStands l net in subst P (sym marks_are) (record {
     played = played_on sc most (marks_of es ms) more o w was.stands.played low is few;
     net = subst (λ h. NetStands sc h net) (sym (same_entries o w M more is)) was.stands.net;
@@ -102,7 +105,7 @@ kept_on sc most es ms new net notes places room spare hr sr nr o w more places2 
   spare_is = spare_is;
   for_marks = for_marks;
   for_packets = for_packets;
-  counted = counted;
+  counted = was.counted;
 }
   where
     M : List Mark

@@ -20,7 +20,7 @@ use Rattle.e3_wire.proofs.Notes.{claim_promises, scenario_stays}
 use Rattle.e3_wire.proofs.Takes.{all_wait, turn_on}
 
 pub claimed_entries_may_enter : ClaimedEntriesMayEnter
-claimed_entries_may_enter e outs marks played site exists may takes few =
+claimed_entries_may_enter e outs marks played site exists may takes few small =
     let keys = (scenario_stays marks (mark.Place e.owner outs ∷ []) played).0 in
     let all : entries_of (marks ++ mark.Place e.owner outs ∷ []) ≡ entries_of marks = entries_append marks (mark.Place e.owner outs ∷ []) ∙ append-nil (entries_of marks) in
     let note = claim_promises e.owner outs marks in
@@ -35,21 +35,22 @@ claimed_entries_may_enter e outs marks played site exists may takes few =
           subst P (sym keys) (subst Q (sym all) takes));
       place = (let P : Note → Type 0 = λ w. 1 ≤ w.places in subst P (sym note) (omega arith));
       room = (let P : Note → Type 0 = λ w. length (outs_of e.act) ≤ w.room in subst P (sym note) (omega (arith, few)));
+      few = omega (arith, few, small);
     }
 
 no_site : (e : Entry) → 1 ≤ e.owner → e.owner ≤ 0 → ⊥
 no_site e some none = omega (arith, some, none)
 
 pub claimed_entries_stay : ClaimedEntriesStay
-claimed_entries_stay e outs [] since played foreign site exists calm may takes few = absurd (no_site e site exists)
-claimed_entries_stay e outs (mark.Entered x ∷ rest) since played foreign site exists calm may takes few = absurd (no_site e site exists)
-claimed_entries_stay e outs (mark.Place o n ∷ rest) since played foreign site exists calm may takes few = absurd (no_site e site exists)
-claimed_entries_stay e outs (mark.Freed o ∷ rest) since played foreign site exists calm may takes few = absurd (no_site e site exists)
-claimed_entries_stay e outs (mark.Start sc most ∷ rest) since played foreign site exists calm may takes few =
+claimed_entries_stay e outs [] since played foreign site exists calm may takes few small = absurd (no_site e site exists)
+claimed_entries_stay e outs (mark.Entered x ∷ rest) since played foreign site exists calm may takes few small = absurd (no_site e site exists)
+claimed_entries_stay e outs (mark.Place o n ∷ rest) since played foreign site exists calm may takes few small = absurd (no_site e site exists)
+claimed_entries_stay e outs (mark.Freed o ∷ rest) since played foreign site exists calm may takes few small = absurd (no_site e site exists)
+claimed_entries_stay e outs (mark.Start sc most ∷ rest) since played foreign site exists calm may takes few small =
     claimed_entries_may_enter e outs (M ++ since) played site exists
     (let P : List Entry → Type 0 = λ k. Allows sc k e in
     subst P (sym parts) (local sc h more e played.given legal site calm others may (all_wait sc (h ++ more) e.owner (inputs_of e.act) legal there)))
-    (let P : List Entry → Type 0 = λ k. TakesInTurn sc k e.owner (inputs_of e.act) in subst P (sym parts) there) few
+    (let P : List Entry → Type 0 = λ k. TakesInTurn sc k e.owner (inputs_of e.act) in subst P (sym parts) there) few small
   where
     M : List Mark
     M = mark.Start sc most ∷ rest

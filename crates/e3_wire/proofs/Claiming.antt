@@ -1,5 +1,5 @@
 -- Places that are promised, and the opening value.
-use Rattle.std.proofs.Common.{◌≡◌, ◌==◌, ◌+◌, ◌*◌, ◌^◌, ◌<◌, ◌≤◌, ℕ, zero, suc, false, nat_le, List, [], ◌∷◌, ◌++◌, length, replicate, set, ◌∙◌, ap, sym, subst, refl, arith, fold, length-append}
+use Rattle.std.proofs.Common.{◌≡◌, ◌==◌, ◌+◌, ◌-◌, ◌*◌, ◌^◌, ◌<◌, ◌≤◌, ℕ, zero, suc, false, nat_le, List, [], ◌∷◌, ◌++◌, length, replicate, set, ◌∙◌, ap, sym, subst, refl, arith, fold, length-append}
 use Rattle.std.specs.Prelude.{slice_index_or}
 use Rattle.std.proofs.lemmas.Bool.{leb-false}
 use Rattle.std.proofs.lemmas.Grind.{fold-append}
@@ -16,11 +16,12 @@ use Rattle.e3_wire.specs.declared.marks.Note.{Note}
 use Rattle.e3_wire.specs.declared.marks.Stored.{Stored}
 use Rattle.e3_wire.specs.declared.marks.Stored.TheVariants as stored
 use Rattle.e3_turn.specs.Chronicles.{ExtendsByOthers}
-use Rattle.e3_wire.specs.Marks.{belongs, entries_of, last_owner, most_of, note_by, note_of, nothing, places_for, promised, rooms, total, used_of}
+use Rattle.e3_wire.specs.Marks.{AreFew, belongs, entries_of, last_owner, most_of, note_by, note_of, nothing, places_for, promised, rooms, total, used_of}
 use Rattle.e3_wire.specs.Stores.{IsKept, count_stored, marks_from, marks_of}
 use Rattle.e3_wire.proofs.Entering.{entries_stored}
 use Rattle.e3_wire.proofs.Changing.{Changes, has_noted, kept_on}
 use Rattle.e3_wire.proofs.Noting.{first_notes, flip, note_push, noted}
+use Rattle.e3_wire.proofs.Rooms.{few_rooms}
 use Rattle.e3_wire.proofs.Sums.{itself, one_of_all}
 
 -- the history is as long as the marks say
@@ -37,6 +38,29 @@ few_are sc most es ms net notes places room spare hr sr nr was =
     let few : most < 2 ^ 32 = was.stands.played.few in
     let within : used_of (marks_from sc most es ms) ≤ most = was.stands.played.within in
     (omega (arith, used, p, within, few), omega (arith, used, p, within, few))
+
+-- 64 bits count the room, with that of one more place too
+room_is_few : (sc : Scenario) (most : ℕ) (es : List Entry) (ms : List Stored) (net : Traffic) (notes : List Note) (places room spare hr sr nr : ℕ) → IsKept sc most es ms net notes places room spare hr sr nr →
+    room ≤ (2 ^ 32 - 1) * used_of (marks_from sc most es ms)
+room_is_few sc most es ms net notes places room spare hr sr nr was =
+    let all = few_rooms (length sc.weights) (marks_from sc most es ms) was.stands.played.promises in
+    let r = was.room_is in
+    omega (arith, all, r)
+
+pub room_alone : (sc : Scenario) (most : ℕ) (es : List Entry) (ms : List Stored) (net : Traffic) (notes : List Note) (places room spare hr sr nr : ℕ) → IsKept sc most es ms net notes places room spare hr sr nr →
+    room + 0 < 2 ^ 64
+room_alone sc most es ms net notes places room spare hr sr nr was =
+    let all = room_is_few sc most es ms net notes places room spare hr sr nr was in
+    let within : used_of (marks_from sc most es ms) ≤ most = was.stands.played.within in
+    let few : most < 2 ^ 32 = was.stands.played.few in
+    omega (arith, all, within, few)
+
+pub room_fits : (sc : Scenario) (most : ℕ) (es : List Entry) (ms : List Stored) (net : Traffic) (notes : List Note) (places room spare hr sr nr outs : ℕ) →
+    IsKept sc most es ms net notes places room spare hr sr nr → used_of (marks_from sc most es ms) < most → outs < 2 ^ 32 → room + outs < 2 ^ 64
+room_fits sc most es ms net notes places room spare hr sr nr outs was left small =
+    let all = room_is_few sc most es ms net notes places room spare hr sr nr was in
+    let few : most < 2 ^ 32 = was.stands.played.few in
+    omega (arith, all, left, few, small)
 
 -- what is not full has a place more
 pub not_full : (marks now : List Mark) → marks ≡ now → nat_le (most_of now) (used_of now) ≡ false → used_of marks < most_of marks
@@ -66,7 +90,7 @@ pub opened : (sc : Scenario) (most hr sr nr : ℕ) (notes : List Note) → IsGiv
     IsKept sc most [] [] (fresh (length sc.weights) sc.luck sc.loss sc.repeat) notes 0 0 0 hr sr nr
 opened sc most hr sr nr notes given few noted = record {
   stands = record {
-    played = record { given = given; legal = tt; within = (let none = none_promised (length sc.weights) in omega (arith, none)); few = few };
+    played = record { given = given; legal = tt; within = (let none = none_promised (length sc.weights) in omega (arith, none)); few = few; promises = (tt, tt) };
     net = fresh_stands sc;
   };
   whole = refl;
@@ -129,21 +153,22 @@ can_be_noted sc most es ms net notes places room spare hr sr nr o n outs was low
 pub promised_kept : (sc : Scenario) (most : ℕ) (es : List Entry) (ms new : List Stored) (net : Traffic) (notes : List Note) (places room spare hr sr nr spare2 hr2 sr2 nr2 o n outs room2 : ℕ)
     (more : List Mark) → IsKept sc most es ms net notes places room spare hr sr nr → o ≤ length sc.weights → used_of (marks_from sc most es ms) + n ≤ most →
     marks_from sc most es new ≡ marks_from sc most es ms ++ more → count_stored new ≡ count_stored ms → Changes o (adds n outs (note_of o (marks_from sc most es ms))) (marks_from sc most es ms) more →
-    room2 ≡ room + outs → places + n ≤ spare2 → spare2 ≤ hr2 → length new + (places + n) ≤ sr2 → room2 ≤ nr2 → net.sent + room2 < 2 ^ 64 →
+    room2 ≡ room + outs → places + n ≤ spare2 → spare2 ≤ hr2 → length new + (places + n) ≤ sr2 → room2 ≤ nr2 →
     IsKept sc most es new net (set notes o (adds n outs (slice_index_or notes o nothing))) (places + n) room2 spare2 hr2 sr2 nr2
-promised_kept sc most es ms new net notes places room spare hr sr nr spare2 hr2 sr2 nr2 o n outs room2 more was low few marks_are count is room_is for_entries spare_is for_marks for_packets counted =
+promised_kept sc most es ms new net notes places room spare hr sr nr spare2 hr2 sr2 nr2 o n outs room2 more was low few marks_are count is room_is for_entries spare_is for_marks for_packets =
     let P : Note → Type 0 = λ v. IsKept sc most es new net (set notes o (adds n outs v)) (places + n) room2 spare2 hr2 sr2 nr2 in
     subst P (sym (was.notes_are.each o low))
     (kept_on sc most es ms new net notes places room spare hr sr nr o (adds n outs w) more (places + n) room2 spare2 hr2 sr2 nr2 was low marks_are count is (omega (arith, few)) (omega arith)
-    (omega (arith, room_is)) for_entries spare_is for_marks for_packets counted)
+    (omega (arith, room_is)) for_entries spare_is for_marks for_packets)
   where
     w : Note
     w = note_of o (marks_from sc most es ms)
 
 -- one place, with room for so many packets
-place_changes : (o outs : ℕ) (marks : List Mark) → Changes o (adds 1 outs (note_of o marks)) marks (mark.Place o outs ∷ [])
-place_changes o outs marks = record {
+place_changes : (o outs : ℕ) (marks : List Mark) → outs < 2 ^ 32 → Changes o (adds 1 outs (note_of o marks)) marks (mark.Place o outs ∷ [])
+place_changes o outs marks few = record {
   enters = refl;
+  few = (few, tt);
   own = note_push o marks (mark.Place o outs) ∙ (rw (itself o) (let one : suc w.places ≡ w.places + 1 = omega arith in ap (λ (k : ℕ). let v : Note = record { places = k; room = w.room + outs } in v) one));
   others = λ u apart. note_push u marks (mark.Place o outs) ∙ (rw (flip u o apart) refl);
 }
@@ -153,12 +178,12 @@ place_changes o outs marks = record {
 
 pub claimed : (sc : Scenario) (most : ℕ) (es : List Entry) (ms : List Stored) (net : Traffic) (notes : List Note) (places room spare hr sr nr spare2 hr2 sr2 nr2 o outs room2 : ℕ) →
     IsKept sc most es ms net notes places room spare hr sr nr → o ≤ length sc.weights → used_of (marks_from sc most es ms) < most → room2 ≡ room + outs → places + 1 ≤ spare2 → spare2 ≤ hr2 →
-    length ms + (places + 2) ≤ sr2 → room2 ≤ nr2 → net.sent + room2 < 2 ^ 64 →
+    length ms + (places + 2) ≤ sr2 → room2 ≤ nr2 → outs < 2 ^ 32 →
     IsKept sc most es (ms ++ stored.Place o outs ∷ []) net (set notes o (adds 1 outs (slice_index_or notes o nothing))) (places + 1) room2 spare2 hr2 sr2 nr2
-claimed sc most es ms net notes places room spare hr sr nr spare2 hr2 sr2 nr2 o outs room2 was low few more for_entries spare_is for_marks for_packets counted =
+claimed sc most es ms net notes places room spare hr sr nr spare2 hr2 sr2 nr2 o outs room2 was low few more for_entries spare_is for_marks for_packets small =
     promised_kept sc most es ms (ms ++ stored.Place o outs ∷ []) net notes places room spare hr sr nr spare2 hr2 sr2 nr2 o 1 outs room2 (mark.Place o outs ∷ []) was low (omega (arith, few))
-    (marks_claimed sc most es ms o outs) (count_place ms o outs) (place_changes o outs (marks_from sc most es ms)) more for_entries spare_is
-    (let long = length-append ms (stored.Place o outs ∷ []) in omega (arith, long, for_marks)) for_packets counted
+    (marks_claimed sc most es ms o outs) (count_place ms o outs) (place_changes o outs (marks_from sc most es ms) small) more for_entries spare_is
+    (let long = length-append ms (stored.Place o outs ∷ []) in omega (arith, long, for_marks)) for_packets
 
 -- so many places without room
 places_enter : (o n : ℕ) → entries_of (places_for o n) ≡ []
@@ -183,9 +208,14 @@ places_other u o (suc n) w apart =
     let one : note_by u w (mark.Place o 0) ≡ w = rw apart refl in
     ap (λ (v : Note). fold (note_by u) v (places_for o n)) one ∙ places_other u o n w apart
 
+places_few : (o n : ℕ) → AreFew (places_for o n)
+places_few o zero = tt
+places_few o (suc n) = (omega arith, places_few o n)
+
 places_change : (o n : ℕ) (marks : List Mark) → Changes o (adds n 0 (note_of o marks)) marks (places_for o n)
 places_change o n marks = record {
   enters = places_enter o n;
+  few = places_few o n;
   own = fold-append (note_by o) nothing marks (places_for o n) ∙ places_own o n (note_of o marks);
   others = λ u apart. fold-append (note_by u) nothing marks (places_for o n) ∙ places_other u o n (note_of u marks) (flip u o apart);
 }
@@ -219,7 +249,7 @@ pub placed : (sc : Scenario) (most : ℕ) (es : List Entry) (ms : List Stored) (
 placed sc most es ms net notes places room spare hr sr nr spare2 hr2 sr2 o n was low few for_entries spare_is for_marks =
     promised_kept sc most es ms (ms ++ replicate n (stored.Place o 0)) net notes places room spare hr sr nr spare2 hr2 sr2 nr o n 0 room (places_for o n) was low few
     (marks_placed sc most es ms o n) (count_places ms o n) (places_change o n (marks_from sc most es ms)) (omega arith) for_entries spare_is
-    (let long = length-append ms (replicate n (stored.Place o 0)) in let all = length-replicate n (stored.Place o 0) in omega (arith, long, all, for_marks)) was.for_packets was.counted
+    (let long = length-append ms (replicate n (stored.Place o 0)) in let all = length-replicate n (stored.Place o 0) in omega (arith, long, all, for_marks)) was.for_packets
 
 pub places_promise : PlacesPromise
 places_promise o n marks played low few =

@@ -28,6 +28,7 @@ use Rattle.e3_wire.specs.Wires.{IsInTurn, WireStands}
 use Rattle.e3_wire.proofs.Entering.{count_entry, marks_entry}
 use Rattle.e3_wire.proofs.Foreign.{entries_append}
 use Rattle.e3_wire.proofs.Noting.{notes_still}
+use Rattle.e3_wire.proofs.Rooms.{few_append}
 use Rattle.e3_wire.proofs.Sums.{stands_still}
 
 -- an entry of the driver uses nothing that is promised
@@ -51,7 +52,7 @@ pub own_entered : (sc : Scenario) (most : ℕ) (es : List Entry) (ms : List Stor
     IsKept sc most (es ++ record { owner = 0; act = act } ∷ []) (ms ++ stored.Entered ∷ []) net2 notes places room spare2 hr2 sr2 nr2
 own_entered sc most es ms net notes places room spare hr sr nr net2 act spare2 hr2 sr2 nr2 was free guard stands_net count few for_entries spare_is for_marks for_packets = record {
   stands = subst (λ (l : List Mark). WireStands l net2) (sym marks_are) (record {
-    played = record { given = was.stands.played.given; legal = subst (IsLegal sc) (sym same) (legal_push sc h e was.stands.played.legal guard); within = within; few = was.stands.played.few };
+    played = record { given = was.stands.played.given; legal = subst (IsLegal sc) (sym same) (legal_push sc h e was.stands.played.legal guard); within = within; few = was.stands.played.few; promises = few_append M (mark.Entered e ∷ []) was.stands.played.promises (tt, tt) };
     net = subst (λ k. NetStands sc k net2) (sym same) stands_net;
   });
   whole = length-append es (e ∷ []) ∙ (let one : length es + 1 ≡ suc (count_stored ms) = (let w = was.whole in omega (arith, w)) in one) ∙ sym (count_entry ms);
@@ -62,7 +63,7 @@ own_entered sc most es ms net notes places room spare hr sr nr net2 act spare2 h
   spare_is = spare_is;
   for_marks = (let long = length-append ms (stored.Entered ∷ []) in omega (arith, long, for_marks));
   for_packets = for_packets;
-  counted = (let f = was.counted in omega (arith, f, count));
+  counted = (let f = was.counted in let long = length-append es (e ∷ []) in omega (arith, f, count, long));
 }
   where
     M : List Mark

@@ -26,6 +26,7 @@ use Rattle.e3_wire.specs.Stores.{AreNotes, IsKept, count_stored, marks_from, mar
 use Rattle.e3_wire.specs.Wires.{MayEnterBehind, WireStands, act_on}
 use Rattle.e3_wire.proofs.Foreign.{entries_append}
 use Rattle.e3_wire.proofs.Noting.{noted, notes_push}
+use Rattle.e3_wire.proofs.Rooms.{few_append}
 use Rattle.e3_wire.proofs.Sums.{changes, itself, one_of_all}
 use Rattle.e3_wire.proofs.Takes.{net_on, used}
 
@@ -150,6 +151,7 @@ entry_keeps sc most rest net e was may = record {
     legal = subst (IsLegal sc) (sym same) (legal_push sc h y was.played.legal may.allowed);
     within = within;
     few = was.played.few;
+    promises = few_append M (mark.Entered y ∷ []) was.played.promises (tt, tt);
   };
   net = subst (λ k. NetStands sc k (sends_all (behind_inputs net (inputs_of e.act)) (outs_of e.act))) (sym same) (net_on sc h net e.owner e.act may.site was.net may.allowed may.takes);
 }
@@ -202,7 +204,7 @@ pub record Entered (sc : Scenario) (most : ℕ) (es : List Entry) (ms : List Sto
 pub entered : (sc : Scenario) (most : ℕ) (es : List Entry) (ms : List Stored) (net : Traffic) (notes : List Note) (places room spare hr sr nr : ℕ) (e : Entry) →
     IsKept sc most es ms net notes places room spare hr sr nr → MayEnterBehind (marks_from sc most es ms) e → Entered sc most es ms net notes places room spare hr sr nr e
 entered sc most es ms net notes places room spare hr sr nr e was may = record {
-  counts = omega (arith, some_room, less_room, was.room_is, was.counted);
+  counts = counts;
   packets = omega (arith, some_room, less_room, was.room_is, was.for_packets);
   entry = omega (arith, some_place, less_places, was.places_are, was.for_entries, was.spare_is);
   known = omega (arith, some_place, less_places, was.places_are, was.for_entries);
@@ -221,7 +223,8 @@ entered sc most es ms net notes places room spare hr sr nr e was may = record {
     spare_is = left;
     for_marks = (let f = was.for_marks in let g = was.places_are in let long = length-append ms (stored.Entered ∷ []) in omega (arith, f, g, long, some_place, less_places));
     for_packets = (let f = was.for_packets in let g = was.room_is in omega (arith, f, g, packets, some_room, less_room));
-    counted = (let f = was.counted in let g = was.room_is in let more = sent_all (behind_inputs net (inputs_of e.act)) (outs_of e.act) in let same = sent_taken net (inputs_of e.act) in omega (arith, f, g, more, same, some_room, less_room));
+    counted = (let f = was.counted in let few = may.few in let long = length-append es (x ∷ []) in let more = sent_all (behind_inputs net (inputs_of e.act)) (outs_of e.act) in let same = sent_taken net (inputs_of e.act) in
+        omega (arith, f, few, long, more, same));
   };
 }
   where
@@ -267,6 +270,15 @@ entered sc most es ms net notes places room spare hr sr nr e was may = record {
 
     less_room : rooms last (M ++ mark.Entered y ∷ []) + used_room (note_in notes e) x.act ≡ rooms last M
     less_room = let r = does.room in omega (arith, r, same_room)
+
+    counts : net.sent + length (outs_of e.act) < 2 ^ 64
+    counts =
+        let f = was.counted in
+        let few = may.few in
+        let long : length (entries_of M) ≡ length es = ap length (entries_stored es ms was.whole) in
+        let within : length (entries_of M) + promised last M ≤ most = was.stands.played.within in
+        let most_few : most < 2 ^ 32 = was.stands.played.few in
+        omega (arith, f, few, long, within, most_few, some_place, less_places)
 
     all_noted : AreNotes last (M ++ mark.Entered y ∷ []) (set notes e.owner (used_by (note_in notes e) x.act))
     all_noted =

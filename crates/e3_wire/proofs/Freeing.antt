@@ -19,6 +19,7 @@ use Rattle.e3_wire.proofs.Sums.{itself, one_of_all}
 freed_changes : (o : ℕ) (marks : List Mark) → Changes o nothing marks (mark.Freed o ∷ [])
 freed_changes o marks = record {
   enters = refl;
+  few = (tt, tt);
   own = note_push o marks (mark.Freed o) ∙ (rw (itself o) refl);
   others = λ u apart. note_push u marks (mark.Freed o) ∙ (rw (flip u o apart) refl);
 }
@@ -60,7 +61,7 @@ freed sc most es ms net notes places room spare hr sr nr o was low some = record
       (marks_freed sc most es ms o) (count_free ms o) (freed_changes o M) (omega (arith, within)) (omega (arith, is_places, own_places, places_were)) (omega (arith, is_room, own_room, room_was))
       (let f = was.for_entries in omega (arith, f)) was.spare_is
       (let f = was.for_marks in let long = length-append ms (stored.Freed o ∷ []) in omega (arith, f, long, is_places, own_places, some, places_were))
-      (let f = was.for_packets in omega (arith, f)) (let f = was.counted in omega (arith, f));
+      (let f = was.for_packets in omega (arith, f));
 }
   where
     M : List Mark

@@ -1,5 +1,6 @@
 pub mod Sums
 pub mod Noting
+pub mod Rooms
 pub mod Foreign
 pub mod Takes
 pub mod Entering

@@ -29,11 +29,11 @@ no_owner : (sc : Scenario) (h : List Entry) (e : Entry) → MayEnter sc h e → 
 no_owner sc h e may none = let some : 1 ≤ e.owner = some_owner sc h e.owner e.act may in omega (arith, some, none)
 
 pub claimed_drafts_may_enter : ClaimedDraftsMayEnter
-claimed_drafts_may_enter e outs [] since played foreign low calm may takes few = absurd (no_owner _ _ e may low)
-claimed_drafts_may_enter e outs (mark.Entered x ∷ rest) since played foreign low calm may takes few = absurd (no_owner _ _ e may low)
-claimed_drafts_may_enter e outs (mark.Place o n ∷ rest) since played foreign low calm may takes few = absurd (no_owner _ _ e may low)
-claimed_drafts_may_enter e outs (mark.Freed o ∷ rest) since played foreign low calm may takes few = absurd (no_owner _ _ e may low)
-claimed_drafts_may_enter e outs (mark.Start sc most ∷ rest) since played foreign low calm may takes few = record {
+claimed_drafts_may_enter e outs [] since played foreign low calm may takes few small = absurd (no_owner _ _ e may low)
+claimed_drafts_may_enter e outs (mark.Entered x ∷ rest) since played foreign low calm may takes few small = absurd (no_owner _ _ e may low)
+claimed_drafts_may_enter e outs (mark.Place o n ∷ rest) since played foreign low calm may takes few small = absurd (no_owner _ _ e may low)
+claimed_drafts_may_enter e outs (mark.Freed o ∷ rest) since played foreign low calm may takes few small = absurd (no_owner _ _ e may low)
+claimed_drafts_may_enter e outs (mark.Start sc most ∷ rest) since played foreign low calm may takes few small = record {
   site = some_owner sc h e.owner e.act may;
   exists = low;
   allowed = (let P : List Entry → Type 0 = λ k. Allows sc k e in
@@ -42,6 +42,7 @@ claimed_drafts_may_enter e outs (mark.Start sc most ∷ rest) since played forei
   takes = (let P : List Entry → Type 0 = λ k. TakesInTurn sc k e.owner (inputs_of e.act) in subst P (sym all) takes_there);
   place = (let P : Note → Type 0 = λ w. 1 ≤ w.places in subst P (sym note) (omega arith));
   room = (let P : Note → Type 0 = λ w. length (outs_of e.act) ≤ w.room in subst P (sym note) (omega (arith, few)));
+  few = omega (arith, few, small);
 }
   where
     M : List Mark

@@ -68,6 +68,7 @@ enter_on (mark.Start sc most ∷ rest) since e played foreign calm may = record 
   takes = (let P : List Entry → Type 0 = λ k. TakesInTurn sc k e.owner (inputs_of e.act) in subst P (sym parts) takes);
   place = (let P : Note → Type 0 = λ w. 1 ≤ w.places in subst P (sym note) may.place);
   room = (let P : Note → Type 0 = λ w. length (outs_of e.act) ≤ w.room in subst P (sym note) may.room);
+  few = may.few;
 }
   where
     M : List Mark

@@ -18,6 +18,7 @@ use Rattle.e3_wire.specs.Wires.{WireStands}
 use Rattle.e3_wire.proofs.Claiming.{count_place, marks_claimed}
 use Rattle.e3_wire.proofs.Foreign.{entries_append}
 use Rattle.e3_wire.proofs.Noting.{noted, notes_withdrawn}
+use Rattle.e3_wire.proofs.Rooms.{few_front}
 use Rattle.e3_wire.proofs.Sums.{changes, itself}
 
 -- marks that end in a promise are stored so
@@ -102,6 +103,7 @@ withdrawn sc most es ms front net notes places room spare hr sr nr o n was is lo
         legal = subst (IsLegal sc) same there.played.legal;
         within = within;
         few = kept.stands.played.few;
+        promises = few_front M (m ∷ []) there.played.promises;
       };
       net = subst (λ h. NetStands sc h net) same there.net;
     };
@@ -113,7 +115,7 @@ withdrawn sc most es ms front net notes places room spare hr sr nr o n was is lo
     spare_is = kept.spare_is;
     for_marks = (let f = kept.for_marks in let long = length-append front (stored.Place o n ∷ []) in omega (arith, f, long));
     for_packets = (let f = kept.for_packets in omega (arith, f));
-    counted = (let f = kept.counted in omega (arith, f));
+    counted = kept.counted;
   },
 )
   where

@@ -1,5 +1,5 @@
 -- What a pass may conclude of marks.
-use Rattle.std.specs.Prelude.{◌≡◌, ◌≢◌, ◌≤◌, ◌+◌, ◌++◌, ◌∷◌, [], ℕ, suc, true, false, List, length, All}
+use Rattle.std.specs.Prelude.{◌≡◌, ◌≢◌, ◌≤◌, ◌<◌, ◌+◌, ◌^◌, ◌++◌, ◌∷◌, [], ℕ, suc, true, false, List, length, All}
 use Rattle.e3_laws.specs.local.Drafts.{MayEnter, MayTake}
 use Rattle.e3_laws.specs.local.Least.{AreOfSites}
 use Rattle.e3_laws.specs.local.Others.{Allows, AreOthers, numbered_on}
@@ -103,14 +103,14 @@ GrowthAddsUp = (first second third : List Mark) → IsPlayed first → HaveGrown
 abbrev pub ClaimedEntriesMayEnter : Type 0
 ClaimedEntriesMayEnter = (e : Entry) (outs : ℕ) (marks : List Mark) → IsPlayed marks → 1 ≤ e.owner → e.owner ≤ last_owner marks →
     Allows (scenario_of marks) (entries_of marks) e → TakesInTurn (scenario_of marks) (entries_of marks) e.owner (inputs_of e.act) →
-    length (outs_of e.act) ≤ outs → MayEnterBehind (marks ++ mark.Place e.owner outs ∷ []) e
+    length (outs_of e.act) ≤ outs → outs < 2 ^ 32 → MayEnterBehind (marks ++ mark.Place e.owner outs ∷ []) e
 
 -- If no recover step is on it may be, whatever others put before the claim.
 abbrev pub ClaimedEntriesStay : Type 0
 ClaimedEntriesStay = (e : Entry) (outs : ℕ) (seen since : List Mark) → IsPlayed (seen ++ since) → AreForeign e.owner since →
     1 ≤ e.owner → e.owner ≤ last_owner seen → is_calm (present_items (scenario_of seen) (entries_of seen)) ≡ false →
     Allows (scenario_of seen) (entries_of seen) e → TakesInTurn (scenario_of seen) (entries_of seen) e.owner (inputs_of e.act) →
-    length (outs_of e.act) ≤ outs → MayEnterBehind ((seen ++ since) ++ mark.Place e.owner outs ∷ []) e
+    length (outs_of e.act) ≤ outs → outs < 2 ^ 32 → MayEnterBehind ((seen ++ since) ++ mark.Place e.owner outs ∷ []) e
 
 -- An input that a site may take, and whose packet is the least to it, is due, if no recover step is on.
 abbrev pub TakenIsDue : Type 0
@@ -122,4 +122,4 @@ abbrev pub ClaimedDraftsMayEnter : Type 0
 ClaimedDraftsMayEnter = (e : Entry) (outs : ℕ) (seen since : List Mark) → IsPlayed (seen ++ since) → AreForeign e.owner since →
     e.owner ≤ last_owner seen → is_calm (present_items (scenario_of seen) (entries_of seen)) ≡ false →
     MayEnter (scenario_of seen) (entries_of seen) e → TakesInTurn (scenario_of seen) (entries_of seen) e.owner (inputs_of e.act) →
-    length (outs_of e.act) ≤ outs → MayEnterBehind ((seen ++ since) ++ mark.Place e.owner outs ∷ []) e
+    length (outs_of e.act) ≤ outs → outs < 2 ^ 32 → MayEnterBehind ((seen ++ since) ++ mark.Place e.owner outs ∷ []) e

@@ -1,5 +1,5 @@
 -- What marks say: the scenario, the entries, and what is promised to each owner.
-use Rattle.std.specs.Prelude.{◌≡◌, ◌≤◌, ◌==◌, ◌||◌, ◌+◌, ◌-◌, ◌∷◌, [], if◌then◌else◌, ℕ, zero, suc, Bool, true, false, List, length, fold, replicate}
+use Rattle.std.specs.Prelude.{◌≡◌, ◌≤◌, ◌<◌, ◌==◌, ◌||◌, ◌+◌, ◌-◌, ◌^◌, ◌∷◌, [], if◌then◌else◌, ℕ, zero, suc, Bool, true, false, List, length, fold, replicate}
 use Rattle.std.specs.List.{flat_map}
 use Rattle.e3_types.specs.declared.entries.Act.{Act}
 use Rattle.e3_types.specs.declared.entries.Act.TheVariants.{Step, Fall, Drop, Parts, Line}
@@ -46,6 +46,16 @@ entries_of marks = flat_map entry_in marks
 -- the last owner: owners are the driver, 0, and the sites
 abbrev pub last_owner : List Mark → ℕ
 last_owner marks = length (scenario_of marks).weights
+
+-- 32 bits count the packets of the promise
+abbrev pub IsFew : Mark → Type 0
+IsFew (mark.Place owner outs) = outs < 2 ^ 32
+IsFew m = Unit {0}
+
+-- and those of each promise
+abbrev pub AreFew : List Mark → Type 0
+AreFew [] = Unit {0}
+AreFew (m ∷ marks) = IsFew m × AreFew marks
 
 -- nothing is promised
 abbrev pub nothing : Note

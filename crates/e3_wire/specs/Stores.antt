@@ -1,5 +1,5 @@
 -- How marks are stored, and what is always true of what is stored.
-use Rattle.std.specs.Prelude.{◌≡◌, ◌≤◌, ◌<◌, ◌+◌, ◌^◌, ◌∷◌, [], ℕ, suc, List, length, slice_index_or}
+use Rattle.std.specs.Prelude.{◌≡◌, ◌≤◌, ◌+◌, ◌-◌, ◌*◌, ◌^◌, ◌∷◌, [], ℕ, suc, List, length, slice_index_or}
 use Rattle.e3_types.specs.declared.entries.Entry.{Entry}
 use Rattle.e3_types.specs.declared.scenarios.Scenario.{Scenario}
 use Rattle.e3_net.specs.Traffic.{Traffic}
@@ -35,8 +35,8 @@ pub record AreNotes (last : ℕ) (marks : List Mark) (notes : List Note) : Type 
   pub count : length notes ≡ suc last
   pub each : (o : ℕ) → o ≤ last → slice_index_or notes o nothing ≡ note_of o marks
 
--- What is shared stands, the marks have just the entries of the history, the notes and the numbers tell what is promised, and
--- there is spare room for all of it.
+-- What is shared stands, the marks have just the entries of the history, the notes and the numbers tell what is promised, there
+-- is spare room for all of it, and no entry sent more packets than 32 bits count.
 pub record IsKept (sc : Scenario) (most : ℕ) (es : List Entry) (ms : List Stored) (net : Traffic) (notes : List Note)
     (places room spare history_room stored_room net_room : ℕ) : Type 0 where
   pub stands : WireStands (marks_from sc most es ms) net
@@ -48,4 +48,4 @@ pub record IsKept (sc : Scenario) (most : ℕ) (es : List Entry) (ms : List Stor
   pub spare_is : spare ≤ history_room
   pub for_marks : length ms + places ≤ stored_room
   pub for_packets : room ≤ net_room
-  pub counted : net.sent + room < 2 ^ 64
+  pub counted : net.sent ≤ (2 ^ 32 - 1) * length es

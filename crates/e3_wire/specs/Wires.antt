@@ -19,15 +19,16 @@ use Rattle.e3_wire.specs.declared.fault.WireFault.{WireFault}
 use Rattle.e3_wire.specs.declared.fault.WireFault.TheVariants.{HistoryFull}
 use Rattle.e3_wire.specs.declared.marks.Mark.{Mark}
 use Rattle.e3_wire.specs.declared.marks.Mark.TheVariants as mark
-use Rattle.e3_wire.specs.Marks.{entries_of, last_owner, most_of, note_of, scenario_of, used_of}
+use Rattle.e3_wire.specs.Marks.{AreFew, entries_of, last_owner, most_of, note_of, scenario_of, used_of}
 
 -- The scenario of the marks keeps the rules, their history is legal for it, and with the promised places it is no longer
--- than it may be, which 32 bits count.
+-- than it may be, which 32 bits count, as they count the packets of each promise.
 pub record IsPlayed (marks : List Mark) : Type 0 where
   pub given : IsGiven (scenario_of marks)
   pub legal : IsLegal (scenario_of marks) (entries_of marks)
   pub within : used_of marks ≤ most_of marks
   pub few : most_of marks < 2 ^ 32
+  pub promises : AreFew marks
 
 -- and the network stands for the history
 pub record WireStands (marks : List Mark) (traffic : Traffic) : Type 0 where
@@ -46,7 +47,7 @@ TakesInTurn sc history site (i ∷ []) = TakesLeast sc history site i
 TakesInTurn sc history site (i ∷ j ∷ inputs) = AreFirstTo sc history site (i ∷ j ∷ inputs)
 
 -- An entry of a site may be entered behind these marks: it is allowed there but for the numbers of its packets, it takes
--- the first packets to its site or none, and a place and room for its packets are promised to the site.
+-- the first packets to its site or none, a place and room for its packets are promised to the site, and 32 bits count them.
 pub record MayEnterBehind (marks : List Mark) (e : Entry) : Type 0 where
   pub site : 1 ≤ e.owner
   pub exists : e.owner ≤ last_owner marks
@@ -54,6 +55,7 @@ pub record MayEnterBehind (marks : List Mark) (e : Entry) : Type 0 where
   pub takes : TakesInTurn (scenario_of marks) (entries_of marks) e.owner (inputs_of e.act)
   pub place : 1 ≤ (note_of e.owner marks).places
   pub room : length (outs_of e.act) ≤ (note_of e.owner marks).room
+  pub few : length (outs_of e.act) < 2 ^ 32
 
 -- the last of these marks promises an owner a place and room for so many packets
 pub record EndsInPromise (owner outs : ℕ) (before marks : List Mark) : Type 0 where

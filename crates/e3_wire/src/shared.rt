@@ -150,16 +150,8 @@ impl Shared {
         ensures ok { OnOk result (self.new ≡ self.old ++ mark.Place owner outs ∷ []) }
         ensures kept { OnErr result (self.new ≡ self.old) }
     {
-        let Some(room) = self.room.checked_add(u64::from(outs)) else {
-            return Err(NoMemory);
-        };
-        let Ok(wanted) = u32::try_from(room) else {
-            return Err(NoMemory);
-        };
-        if self.net.sent() > u64::MAX - room {
-            return Err(NoMemory);
-        }
-        self.net.reserve(wanted)?;
+        let room = self.room + u64::from(outs);
+        self.net.reserve(room)?;
         self.store.make_room(self.places, 1)?;
         self.store
             .stored

@@ -22,18 +22,18 @@ use Rattle.e3_world.specs.Making.{state_now, elected_now, attempt_now, may_decid
 abbrev pub and_verdict : At → Txn → ℕ → List ℕ → List SiteReport → Made → Made
 and_verdict a t n group reports made = by (verdict_of a.weights t.sites reports)
   where
-    said : Verdict → Made
-    said v = and_tell (told.Verdict t n v) made
+    telling : Verdict → Made
+    telling v = and_tell (told.Verdict t n v) made
 
     decided : Dir → Made → Made
     decided dir more = and_cast a group (msg.Decide t dir) (if may_decide a t dir more then and_decide a t dir more else more)
 
     by : Verdict → Made
-    by verdict.Abort = decided Abort (said verdict.Abort)
-    by verdict.Commit = decided Commit (said verdict.Commit)
-    by verdict.PreCommit = and_attempt a t n Commit group (said verdict.PreCommit)
-    by verdict.PreAbort = and_attempt a t n Abort group (said verdict.PreAbort)
-    by (verdict.Block have total) = said (verdict.Block have total)
+    by verdict.Abort = decided Abort (telling verdict.Abort)
+    by verdict.Commit = decided Commit (telling verdict.Commit)
+    by verdict.PreCommit = and_attempt a t n Commit group (telling verdict.PreCommit)
+    by verdict.PreAbort = and_attempt a t n Abort group (telling verdict.PreAbort)
+    by (verdict.Block have total) = telling (verdict.Block have total)
 
 -- the whole group was heard: the site joins the greatest number plus one, unless it is not above its own or too great
 abbrev pub and_join : At → Txn → Election → Made → Made

@@ -9,7 +9,7 @@ use Rattle.e3_fleet.specs.crew.Workers.{HasWorked, KnowsWith}
 use Rattle.e3_fleet.proofs.crew.Growing.{alike_meanwhile, lines_meanwhile, meanwhile_all, meanwhile_none, meanwhile_on, meanwhile_own, restless_on}
 use Rattle.e3_node.specs.Batches.{BatchEnded, EndedShort, HasFallenOverAll, HasSteppedAll, OneFrameTakes, fall_over, stepped}
 use Rattle.e3_node.specs.Claims.{MovesStay}
-use Rattle.e3_site_log.specs.Ends.{IsReason, Takes, calls_for}
+use Rattle.e3_node.specs.site_log.Ends.{IsReason, Takes, calls_for}
 use Rattle.e3_node.specs.NodeStands.{NodeStands}
 use Rattle.e3_node.specs.NodeView.{NodeView, disk_of}
 use Rattle.e3_node.specs.Turns.{Meanwhile}

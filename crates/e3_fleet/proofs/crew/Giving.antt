@@ -8,7 +8,7 @@ use Rattle.e3_fleet.specs.crew.Workers.{HasGiven, HasWorked, Knows}
 use Rattle.e3_fleet.proofs.crew.Growing.{alike_meanwhile, lines_meanwhile, meanwhile_all, meanwhile_on, meanwhile_own, restless_on}
 use Rattle.e3_node.specs.Claims.{MovesStay}
 use Rattle.e3_node.specs.Ends.{FellOver, is_fall}
-use Rattle.e3_site_log.specs.Ends.{IsReason, Takes, calls_for}
+use Rattle.e3_node.specs.site_log.Ends.{IsReason, Takes, calls_for}
 use Rattle.e3_node.specs.NodeStands.{NodeStands}
 use Rattle.e3_node.specs.NodeView.{NodeView, disk_of}
 use Rattle.e3_node.specs.Places.{HasGivenNoneBack}

@@ -5,7 +5,7 @@ use Rattle.e3_laws.specs.local.Others.{AreOthers}
 use Rattle.e3_laws.specs.local.Workers.{AtItems}
 use Rattle.e3_node.specs.Batches.{FellOverAll, stepped}
 use Rattle.e3_node.specs.Ends.{FellOver}
-use Rattle.e3_site_log.specs.Ends.{IsReason, Takes, calls_for}
+use Rattle.e3_node.specs.site_log.Ends.{IsReason, Takes, calls_for}
 use Rattle.e3_node.specs.Turns.{Meanwhile}
 use Rattle.e3_node.specs.declared.fault.InputFault.{InputFault}
 use Rattle.e3_node.specs.declared.fault.InputFault.TheVariants as input_fault

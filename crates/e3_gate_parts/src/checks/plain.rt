@@ -1,6 +1,6 @@
 // What the plain judge finds in a text, told as a verdict is.
 use e3_judge::{is_whole, judge};
-use e3_report::lines::Page;
+use e3_report::Page;
 use e3_scenario::read_scenario;
 use e3_trace::{before_mark, read_trace};
 use e3_types::{NoMemory, Scenario};

@@ -1,7 +1,7 @@
 // Texts of scenarios: the line of the fault of each, and what is read. A text stands on one line, with a semicolon for each line
 // feed.
 use crate::texts::{cut, number};
-use e3_report::lines::Page;
+use e3_report::Page;
 use e3_scenario::{fault_line, read_scenario};
 use e3_types::{KeyRow, NoMemory, Scenario};
 use std::alloc::Global;

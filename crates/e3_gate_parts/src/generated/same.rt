@@ -1,5 +1,5 @@
 // Whether two scenarios are the same: by their numbers, and by the lines of their rows and items, which differ where these do.
-use e3_report::lines::Page;
+use e3_report::Page;
 use e3_types::{NoMemory, Scenario};
 use std::alloc::Global;
 

@@ -3,7 +3,7 @@ use crate::texts::{cut, number, parts_of, push_hex, push_known, spelled_by};
 use e3_codec::{
     RecordFault, each_list_has_one_spelling, put_records, read_records, records_are_a_format,
 };
-use e3_report::lines::Page;
+use e3_report::Page;
 use e3_types::{List, NoMemory, Record};
 use std::alloc::Global;
 

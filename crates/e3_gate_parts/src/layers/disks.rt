@@ -2,7 +2,7 @@
 use crate::answers::push_write;
 use crate::texts::{bytes_of, push_hex};
 use e3_disk::{Disk, DiskFault, Drill, MemDisk, Piece, torn_writes_keep_the_rest, write_pieces};
-use e3_report::lines::Page;
+use e3_report::Page;
 use e3_types::{Leave, List, NoMemory};
 use std::alloc::Global;
 

@@ -8,7 +8,7 @@ use e3_log::{
     AppendFault, Frame, Log, OpenCause, OpenRefused, calls_are_whole_or_not_at_all,
     regions_have_one_reading,
 };
-use e3_report::lines::Page;
+use e3_report::Page;
 use e3_types::{Leave, List, NoMemory};
 use std::alloc::Global;
 

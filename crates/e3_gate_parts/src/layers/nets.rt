@@ -1,6 +1,6 @@
 // Networks: what is lost and what comes twice, what parts and the calm do to it, and the order in which packets are taken.
 use e3_net::Net;
-use e3_report::lines::Page;
+use e3_report::Page;
 use e3_types::{List, Message, NoMemory, Packet, SiteSet, Txn};
 use std::alloc::Global;
 

@@ -3,7 +3,7 @@ use crate::texts::{bytes_of, push_hex};
 use e3_outside::{
     Failed, MemSink, MemSource, ReadFault, Sink, Source, StdSink, StdSource, read_up_to, write_all,
 };
-use e3_report::lines::Page;
+use e3_report::Page;
 use e3_types::{List, NoMemory};
 use std::alloc::Global;
 use std::io::{self, ErrorKind, Read, Write};

@@ -2,7 +2,7 @@
 // queues, the generator's words, and histories.
 use crate::texts::{push_count, push_flag, push_known};
 use e3_locks::front;
-use e3_report::lines::Page;
+use e3_report::Page;
 use e3_types::{Act, Copied, Entry, List, Lock, Mode, Name, NoMemory, Record, SiteSet, Txn, Val};
 use e3_world::{History, fate_word};
 use std::alloc::Global;

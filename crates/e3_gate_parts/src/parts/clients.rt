@@ -4,7 +4,7 @@ ghost use Rattle.e3_types.specs.Sets.{has_site};
 
 use crate::texts::push_word;
 use e3_client::{Client, Heard};
-use e3_report::lines::Page;
+use e3_report::Page;
 use e3_types::{NoMemory, Refusal, SiteSet, State, Told, Txn};
 use std::alloc::Global;
 

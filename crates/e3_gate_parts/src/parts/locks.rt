@@ -2,7 +2,7 @@
 // which they began: the first is the oldest.
 use crate::texts::{cut, parts_of, push_txn, push_word};
 use e3_locks::{Granted, ListLocks, LockCall, LockTable, Locks, replay_locks};
-use e3_report::lines::Page;
+use e3_report::Page;
 use e3_types::{Grant, List, Mode, Name, NoMemory, SiteSet, Txn};
 use std::alloc::Global;
 

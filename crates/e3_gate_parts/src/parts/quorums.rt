@@ -6,7 +6,7 @@ use crate::texts::{push_flag, push_word};
 use e3_commit::{Round, Votes};
 use e3_elect::Election;
 use e3_quorum::{WeightFault, Weights};
-use e3_report::lines::Page;
+use e3_report::Page;
 use e3_types::{Call, Copied, Dir, NoMemory, SiteReport, SiteSet, State};
 use std::alloc::Global;
 

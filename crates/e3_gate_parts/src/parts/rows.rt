@@ -2,7 +2,7 @@
 ghost use Rattle.std.specs.Prelude.{◌≡◌, nat_lt};
 ghost use Rattle.std.specs.List.{list_all};
 
-use e3_report::lines::Page;
+use e3_report::Page;
 use e3_tables::{Tables, Workspace};
 use e3_types::{Key, List, Name, NumOp, Op, Row, SiteSet, Txn, Val};
 use std::alloc::Global;

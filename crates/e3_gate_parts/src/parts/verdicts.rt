@@ -1,5 +1,5 @@
 // Verdicts: each case of the rule of a decision, and what an elector concludes over the reports of its group.
-use e3_report::lines::Page;
+use e3_report::Page;
 use e3_rule::{decide, verdict_of};
 use e3_types::{SiteReport, SiteSet, State, Told, Txn, Verdict};
 

@@ -7,8 +7,8 @@ use crate::texts::bytes_of;
 use e3_codec::{put_records, read_records};
 use e3_disk::{Disk, DiskFault, Drill, MemDisk};
 use e3_log::{Frame, Log, TurnFault};
-use e3_report::lines::Page;
-use e3_site::{RebuildFault, Site, brief, of_site, rebuild};
+use e3_report::Page;
+use e3_site::{RebuildFault, Site, brief, brief_of_site, rebuild};
 use e3_types::{List, NoMemory, Record};
 use std::alloc::Global;
 
@@ -120,7 +120,7 @@ fn turn_to_brief(alloc: Global, page: &mut Page, log: &mut Log<MemDisk>, bodies:
 
 // The bytes of the brief that a site tells by its tables.
 fn told_by(alloc: Global, site: &Site) -> Result<List<u8>, NoMemory> {
-    put_records(alloc, of_site(alloc, site)?.as_slice())
+    put_records(alloc, brief_of_site(alloc, site)?.as_slice())
 }
 
 // The bytes of the brief of records.

@@ -7,7 +7,7 @@ use crate::sites::logs::log_of;
 use crate::texts::push_txn;
 use e3_judge::{since_line, to_line};
 use e3_readings::{life_of, open_in};
-use e3_report::lines::Page;
+use e3_report::Page;
 use e3_site::{Plan, RebuildFault, Site, rebuild};
 use e3_step::plain::step_of;
 use e3_types::{Act, Entry, Input, List, NoMemory, Record, Scenario, Txn};

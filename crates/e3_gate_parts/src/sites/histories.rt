@@ -2,7 +2,7 @@
 use crate::texts::{push_count, push_txn};
 use e3_judge::{Prefix, clash, order, turn_of};
 use e3_readings::{RecoveryRound, rows_at};
-use e3_report::lines::Page;
+use e3_report::Page;
 use e3_step::plain::unnumbered_input;
 use e3_types::{Act, Copied, Entry, Input, Key, KeyRow, List, NoMemory, Row, Scenario};
 use e3_world::History;

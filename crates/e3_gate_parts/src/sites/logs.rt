@@ -1,7 +1,7 @@
 // Records that are the log of a site, or are out of order.
 use crate::texts::push_count;
 use e3_judge::{since_line, to_line};
-use e3_report::lines::Page;
+use e3_report::Page;
 use e3_site::{RebuildFault, Site, first_disorder, rebuild};
 use e3_types::{Act, Copied, Entry, List, NoMemory, Record};
 use std::alloc::Global;

@@ -4,7 +4,7 @@ use e3_commit::Acks;
 use e3_elect::Election;
 use e3_judge::Prefix;
 use e3_readings::*;
-use e3_report::lines::Page;
+use e3_report::Page;
 use e3_types::{Act, Entry, List, Mode, Name, NoMemory, Record, Row, SiteSet, Told, Txn};
 use e3_world::{Incarnation, Life, Moment};
 use std::alloc::Global;

@@ -7,7 +7,7 @@ use crate::playing::{CAPACITY, played_over};
 use e3_disk::MemDisk;
 use e3_fleet::Played;
 use e3_outside::OpenGate;
-use e3_report::lines::Page;
+use e3_report::Page;
 use e3_scenario::read_scenario;
 use e3_types::Scenario;
 use std::alloc::Global;

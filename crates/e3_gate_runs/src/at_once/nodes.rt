@@ -15,7 +15,7 @@ use crate::playing::{CAPACITY, MOST};
 use e3_disk::{Disk, Drill, MemDisk};
 use e3_node::Node;
 use e3_readings::rows_at;
-use e3_report::lines::Page;
+use e3_report::Page;
 use e3_types::{Copied, List, NoMemory, Row, Scenario};
 use e3_wire::{Wire, WirePass};
 use once::takes_at_once;

@@ -3,7 +3,7 @@ use crate::judged::frames::{add, open};
 use crate::texts::{number, without_space};
 use e3_disk::{Disk, Drill, MemDisk};
 use e3_log::{Frame, Log, OpenCause};
-use e3_report::lines::Page;
+use e3_report::Page;
 use std::alloc::Global;
 
 // Room for the frames in the first half, which is the region that counts.

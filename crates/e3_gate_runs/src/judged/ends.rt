@@ -1,7 +1,7 @@
 // How a run ended, in words.
 use crate::given::{Asked, Given, Ran, played};
 use e3_disk::{Disk, MemDisk};
-use e3_report::lines::Page;
+use e3_report::Page;
 use std::alloc::Global;
 use std::sync::Wait;
 use std::thread::Threads;

@@ -1,6 +1,6 @@
 // A scenario cut behind each of its bytes: how each front of it is refused.
 use crate::given::{Given, Ran, played};
-use e3_report::lines::Page;
+use e3_report::Page;
 use std::alloc::Global;
 use std::sync::Wait;
 use std::thread::Threads;

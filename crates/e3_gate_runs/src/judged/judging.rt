@@ -5,7 +5,7 @@ use crate::texts::{cut, without_space};
 use e3_disk::MemDisk;
 use e3_judge::{is_whole, judge};
 use e3_outside::MemSink;
-use e3_report::lines::Page;
+use e3_report::Page;
 use e3_scenario::read_scenario;
 use e3_top::Ended;
 use e3_types::Scenario;

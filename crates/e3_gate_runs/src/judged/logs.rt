@@ -1,7 +1,7 @@
 // What a run tells of logs without room: how often it committed, fell and rose, and of how many sites the disk stands.
 use crate::given::{Asked, Ran, played};
 use crate::judged::standing::count_standing;
-use e3_report::lines::Page;
+use e3_report::Page;
 use e3_scenario::read_scenario;
 use e3_top::Ended;
 use std::alloc::Global;

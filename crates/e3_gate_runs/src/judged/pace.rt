@@ -11,8 +11,7 @@ mod rising;
 
 use course::{Course, MOST};
 use e3_outside::Source;
-use e3_report::lines::Page;
-use e3_report::report;
+use e3_report::{Page, report};
 use e3_types::NoMemory;
 use playing::{Behind, Pace, play};
 use rising::{Rise, rises};

@@ -4,7 +4,7 @@ use e3_codec::{RecordFault, put_records, read_records};
 use e3_disk::{Drill, MemDisk};
 use e3_judge::{Prefix, Tail};
 use e3_log::{Frame, OpenCause, OpenRefused};
-use e3_report::lines::Page;
+use e3_report::Page;
 use e3_site::brief;
 use e3_types::{Entry, List, NoMemory, Record, Scenario};
 use std::alloc::Global;

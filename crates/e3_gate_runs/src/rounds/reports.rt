@@ -9,7 +9,7 @@ use e3_disk::{Disk, MemDisk};
 use e3_fleet::{Fleet, memory_disks, play_first};
 use e3_outside::OpenGate;
 use e3_play::{RoundReport, begin_recovery, recover};
-use e3_report::lines::Page;
+use e3_report::Page;
 use e3_types::{Item, List, Scenario};
 use std::alloc::Global;
 use std::sync::Wait;

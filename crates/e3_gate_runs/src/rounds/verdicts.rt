@@ -1,5 +1,5 @@
 // What a verdict reads as.
-use e3_report::lines::Page;
+use e3_report::Page;
 use e3_types::Verdict;
 
 fn push_verdict(page: &mut Page, verdict: Verdict) {

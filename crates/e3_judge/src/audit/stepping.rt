@@ -98,10 +98,8 @@ fn step_at(seat: &mut Seat, prefix: &Prefix<'_>, step: &SeenStep<'_>) -> Result<
 fn send_all(alloc: Global, net: &mut Net, outs: &[Packet]) -> Result<(), NoMemory>
     ensures { IfOk result (λ u. net.new.traffic ≡ sends_all net.old.traffic outs.now) }
 {
-    let Ok(count) = u32::try_from(outs.len()) else {
-        return Err(NoMemory);
-    };
-    if net.sent() > u64::MAX - u64::from(count) {
+    let count = outs.len() as u64;
+    if net.sent() > u64::MAX - count {
         return Err(NoMemory);
     }
     net.reserve(count)?;

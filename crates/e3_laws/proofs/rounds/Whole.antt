@@ -58,7 +58,7 @@ outcome sc start more r begun low = by begun.all refl
 
 pub rounds_end : RoundsEnd
 rounds_end sc h r given legal short s up = record {
-  said = v;
+  concluded = v;
   one = ended.one;
   blocked = (there, back);
   decided = λ no_block. no_site (is_open sc (s.start ++ (e ∷ s.more)) r.txn) r.members (λ x member. ended.decided no_block x member);

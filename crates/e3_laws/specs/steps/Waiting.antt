@@ -17,7 +17,7 @@ may_wait a (msg.Do t n op) = true
 may_wait a (msg.Done t n inc answer) = inc == a.life.inc
 may_wait a (msg.LastElected t call elected) = true
 may_wait a (msg.Report t n st attempt) = true
-may_wait a (msg.Vote t said) = true
+may_wait a (msg.Vote t agrees) = true
 may_wait a (msg.Ack t n dir) = true
 may_wait a _ = false
 

@@ -140,7 +140,7 @@ impl Lines for Entry {
 }
 
 /// Adds the lines of each entry. Any list of entries has a trace, also one that is no history.
-pub fn push_trace(out: &mut List<u8>, history: &[Entry]) -> Result<(), NoMemory>
+pub(crate) fn push_trace(out: &mut List<u8>, history: &[Entry]) -> Result<(), NoMemory>
     ensures { OnOk result (out.new ≡ out.old ++ trace_of history.now) }
 {
     push_each(out, history)

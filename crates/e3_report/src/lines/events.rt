@@ -12,7 +12,7 @@ use e3_types::{Act, Answer, Dir, Entry, List, NoMemory, Refusal, Told, Txn, Verd
 
 /// Adds the answer to an operation.
 #[tactic(auto, unfolding(crate::specs::lines::Events::answer_text))]
-pub fn push_answer(out: &mut List<u8>, answer: &Answer) -> Result<(), NoMemory>
+pub(crate) fn push_answer(out: &mut List<u8>, answer: &Answer) -> Result<(), NoMemory>
     ensures { OnOk result (out.new ≡ out.old ++ answer_text answer.now) }
 {
     match answer {
@@ -157,7 +157,7 @@ fn push_at_site(out: &mut List<u8>, site: u32) -> Result<(), NoMemory>
 
 /// Adds the transaction, and what is told of it.
 #[tactic(auto, unfolding(crate::specs::lines::Events::told_text))]
-pub fn push_told_text(out: &mut List<u8>, told: &Told) -> Result<(), NoMemory>
+pub(crate) fn push_told_text(out: &mut List<u8>, told: &Told) -> Result<(), NoMemory>
     ensures { OnOk result (out.new ≡ out.old ++ told_text told.now) }
 {
     push_txn(out, of_txn(told))?;
@@ -185,7 +185,7 @@ fn push_all_told(out: &mut List<u8>, site: u32, events: &[Told]) -> Result<(), N
 
 /// Adds why a site fell.
 #[tactic(auto, unfolding(crate::specs::lines::Events::why_text))]
-pub fn push_why(out: &mut List<u8>, why: Why) -> Result<(), NoMemory>
+pub(crate) fn push_why(out: &mut List<u8>, why: Why) -> Result<(), NoMemory>
     ensures { OnOk result (out.new ≡ out.old ++ why_text why) }
 {
     match why {
@@ -242,7 +242,7 @@ fn push_fall(out: &mut List<u8>, site: u32, why: Why) -> Result<(), NoMemory>
 
 /// Adds a line of a site that has one word.
 #[tactic(auto, unfolding(crate::specs::lines::Events::word_line))]
-pub fn push_word_line(out: &mut List<u8>, site: u32, word: &str) -> Result<(), NoMemory>
+pub(crate) fn push_word_line(out: &mut List<u8>, site: u32, word: &str) -> Result<(), NoMemory>
     ensures { OnOk result (out.new ≡ out.old ++ word_line site word.now) }
 {
     push_at_site(out, site)?;
@@ -251,7 +251,7 @@ pub fn push_word_line(out: &mut List<u8>, site: u32, word: &str) -> Result<(), N
 
 /// Adds the lines of an entry.
 #[tactic(auto, unfolding(crate::specs::lines::Events::act_lines))]
-pub fn push_entry(out: &mut List<u8>, entry: &Entry) -> Result<(), NoMemory>
+pub(crate) fn push_entry(out: &mut List<u8>, entry: &Entry) -> Result<(), NoMemory>
     ensures { OnOk result (out.new ≡ out.old ++ entry_lines entry.now) }
 {
     let site = entry.owner;

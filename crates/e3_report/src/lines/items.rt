@@ -114,7 +114,7 @@ impl Marked for Item {
 
 /// Adds a line for each item.
 #[tactic(auto, unfolding(crate::specs::lines::Items::item_line))]
-pub fn push_items(out: &mut List<u8>, items: &[Item]) -> Result<(), NoMemory>
+pub(crate) fn push_items(out: &mut List<u8>, items: &[Item]) -> Result<(), NoMemory>
     ensures { OnOk result (out.new ≡ out.old ++ flat_map item_line items.now) }
 {
     push_marked_lines(out, "> ", items)

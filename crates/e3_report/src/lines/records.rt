@@ -24,7 +24,7 @@ impl Lines for Row {
 }
 
 /// Adds a line for each row of a table.
-pub fn push_rows(out: &mut List<u8>, rows: &[Row]) -> Result<(), NoMemory>
+pub(crate) fn push_rows(out: &mut List<u8>, rows: &[Row]) -> Result<(), NoMemory>
     ensures { OnOk result (out.new ≡ out.old ++ flat_map row_line rows.now) }
 {
     push_each(out, rows)
@@ -174,7 +174,7 @@ fn push_record(out: &mut List<u8>, mark: &str, r: &Record) -> Result<(), NoMemor
 }
 
 /// Adds the lines of each record of a log, with the mark before each line.
-pub fn push_records(out: &mut List<u8>, mark: &str, log: &[Record]) -> Result<(), NoMemory>
+pub(crate) fn push_records(out: &mut List<u8>, mark: &str, log: &[Record]) -> Result<(), NoMemory>
     ensures { OnOk result (out.new ≡ out.old ++ flat_map (record_lines mark.now) log.now) }
 {
     for r in log {

@@ -36,7 +36,7 @@ pub fn push_labelled(out: &mut List<u8>, label: &str, number: u64) -> Result<(),
 
 /// Ends a line.
 #[tactic(auto, unfolding(crate::specs::lines::Texts::line_end))]
-pub fn push_line_end(out: &mut List<u8>) -> Result<(), NoMemory>
+pub(crate) fn push_line_end(out: &mut List<u8>) -> Result<(), NoMemory>
     ensures { OnOk result (out.new ≡ out.old ++ line_end) }
 {
     push_text(out, "\n")
@@ -81,7 +81,7 @@ fn push_more_sites(out: &mut List<u8>, sites: SiteSet) -> Result<(), NoMemory>
 
 /// Adds the sites of a set in ascending order, with commas between them.
 #[tactic(auto, unfolding(crate::specs::lines::Texts::sites_text))]
-pub fn push_sites(out: &mut List<u8>, sites: SiteSet) -> Result<(), NoMemory>
+pub(crate) fn push_sites(out: &mut List<u8>, sites: SiteSet) -> Result<(), NoMemory>
     ensures { OnOk result (out.new ≡ out.old ++ sites_text sites) }
 {
     match sites.split_first() {
@@ -102,7 +102,7 @@ fn push_after_bar(out: &mut List<u8>, part: SiteSet) -> Result<(), NoMemory>
 }
 
 /// Adds the parts of the network with bars between them.
-pub fn push_parts(out: &mut List<u8>, parts: &[SiteSet]) -> Result<(), NoMemory>
+pub(crate) fn push_parts(out: &mut List<u8>, parts: &[SiteSet]) -> Result<(), NoMemory>
     ensures { OnOk result (out.new ≡ out.old ++ parts_text parts.now) }
 {
     if let [first, more @ ..] = parts {
@@ -116,7 +116,7 @@ pub fn push_parts(out: &mut List<u8>, parts: &[SiteSet]) -> Result<(), NoMemory>
 
 /// Adds a transaction's name.
 #[tactic(auto, unfolding(crate::specs::lines::Texts::txn_text))]
-pub fn push_txn(out: &mut List<u8>, txn: &Txn) -> Result<(), NoMemory>
+pub(crate) fn push_txn(out: &mut List<u8>, txn: &Txn) -> Result<(), NoMemory>
     ensures { OnOk result (out.new ≡ out.old ++ txn_text txn.now) }
 {
     push_number(out, txn.site as u64)?;
@@ -134,7 +134,7 @@ pub(crate) fn push_word_and_txn(out: &mut List<u8>, word: &str, txn: &Txn) -> Re
 
 /// Adds a key.
 #[tactic(auto, unfolding(crate::specs::lines::Texts::key_text))]
-pub fn push_key(out: &mut List<u8>, key: &Key) -> Result<(), NoMemory>
+pub(crate) fn push_key(out: &mut List<u8>, key: &Key) -> Result<(), NoMemory>
     ensures { OnOk result (out.new ≡ out.old ++ key_text key.now) }
 {
     push_number(out, key.site as u64)?;
@@ -144,7 +144,7 @@ pub fn push_key(out: &mut List<u8>, key: &Key) -> Result<(), NoMemory>
 
 /// Adds a direction.
 #[tactic(auto, unfolding(crate::specs::lines::Texts::dir_text))]
-pub fn push_dir(out: &mut List<u8>, dir: Dir) -> Result<(), NoMemory>
+pub(crate) fn push_dir(out: &mut List<u8>, dir: Dir) -> Result<(), NoMemory>
     ensures { OnOk result (out.new ≡ out.old ++ dir_text dir) }
 {
     match dir {
@@ -155,7 +155,7 @@ pub fn push_dir(out: &mut List<u8>, dir: Dir) -> Result<(), NoMemory>
 
 /// Adds a state.
 #[tactic(auto, unfolding(crate::specs::lines::Texts::state_text))]
-pub fn push_state(out: &mut List<u8>, state: State) -> Result<(), NoMemory>
+pub(crate) fn push_state(out: &mut List<u8>, state: State) -> Result<(), NoMemory>
     ensures { OnOk result (out.new ≡ out.old ++ state_text state) }
 {
     match state {
@@ -183,7 +183,7 @@ pub fn push_leave(out: &mut List<u8>, leave: Leave) -> Result<(), NoMemory>
 
 /// Adds ` kept` where it is so.
 #[tactic(auto, unfolding(crate::specs::lines::Texts::kept_text))]
-pub fn push_kept(out: &mut List<u8>, kept: bool) -> Result<(), NoMemory>
+pub(crate) fn push_kept(out: &mut List<u8>, kept: bool) -> Result<(), NoMemory>
     ensures { OnOk result (out.new ≡ out.old ++ kept_text kept) }
 {
     if kept {

@@ -1,7 +1,7 @@
 use Rattle.std.specs.Prelude.{Option, unwrap_or}
 use Rattle.std.specs.Map.{lookup}
 use Rattle.std.specs.BTreeMap.{is_at}
-use Rattle.std.proofs.Common.{rules, if◌then◌else◌, ap, sym, ◌∙◌}
+use Rattle.std.proofs.Common.{rules, if◌then◌else◌, ap, ◌∙◌}
 use Rattle.e3_types.specs.Same.{same_txn}
 use Rattle.e3_cards.specs.declared.card.Card.{Card}
 use Rattle.e3_cards.specs.declared.keys.TxnKey.{TxnKey}

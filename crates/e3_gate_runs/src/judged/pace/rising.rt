@@ -3,7 +3,7 @@ use crate::judged::frames::add;
 use e3_codec::{put_records, read_records};
 use e3_disk::{Disk, MemDisk};
 use e3_log::{Frame, Log};
-use e3_site::{Site, of_site, rebuild};
+use e3_site::{Site, brief_of_site, rebuild};
 use e3_types::{Dir, Key, List, Name, NoMemory, NumOp, Op, Record, SiteSet, Txn, Val};
 use std::alloc::Global;
 use std::rt::Clock;
@@ -175,7 +175,7 @@ fn turn<D: Disk>(log: &mut Log<D>, body: &[u8]) -> Option<()> {
 // Turns the log of a site to its brief.
 fn turn_to_brief(alloc: Global, risen: Risen) -> Option<MemDisk> {
     let Risen { mut log, site, .. } = risen;
-    let brief = of_site(alloc, &site).ok()?;
+    let brief = brief_of_site(alloc, &site).ok()?;
     let body = put_records(alloc, brief.as_slice()).ok()?;
     turn(&mut log, body.as_slice())?;
     Some(log.into_disk())

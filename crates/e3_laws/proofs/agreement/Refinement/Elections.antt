@@ -101,8 +101,8 @@ row_join h made u e s good bare led member ok = by (all_heard e && nat_lt (great
     joined : Made
     joined = and_record (log.Join u n) made
 
-    said : Made
-    said = and_cast a e.group (msg.Elected u n) joined
+    called : Made
+    called = and_cast a e.group (msg.Elected u n) joined
 
     still : notes_now h made ≡ own_log h
     still = ap (λ rs. notes_now h (record made { records = rs })) bare
@@ -118,8 +118,8 @@ row_join h made u e s good bare led member ok = by (all_heard e && nat_lt (great
     joined_good : nat_le (elected_now a u made) (greatest_heard e) ≡ true → Good h joined
     joined_good low = keep_join h made u n s good bare (rises low) (λ same. inl led)
 
-    said_good : nat_le (elected_now a u made) (greatest_heard e) ≡ true → Good h said
-    said_good low =
+    called_good : nat_le (elected_now a u made) (greatest_heard e) ≡ true → Good h called
+    called_good low =
         keep_cast h e.group (msg.Elected u n) joined (joined_good low)
         (λ to k. only_word (λ w. MayLeave h (notes_now h joined) to w) (same_txn h.txn u) (Elected n)
         (λ q. (
@@ -127,8 +127,8 @@ row_join h made u e s good bare led member ok = by (all_heard e && nat_lt (great
           λ m. (of_txn h u (λ v. has_site v.sites a.site ≡ true) (same_is h.txn u q) (member (same_is h.txn u q)), has_from_in to h.txn.sites (within_in e.group h.txn.sites (ok (same_is h.txn u q)).within to k)),
         )))
 
-    said_now : h.txn ≡ u → notes_now h said ≡ Join n a.site ∷ own_log h
-    said_now same = cast_now h e.group (msg.Elected u n) joined ∙ now same
+    called_now : h.txn ≡ u → notes_now h called ≡ Join n a.site ∷ own_log h
+    called_now same = cast_now h e.group (msg.Elected u n) joined ∙ now same
 
     own : h.txn ≡ u → reply_of report ≡ own_reply (Join n a.site ∷ own_log h) a.site n
     own same =
@@ -151,13 +151,13 @@ row_join h made u e s good bare led member ok = by (all_heard e && nat_lt (great
         only r (inl q) = subst (λ (z : SiteReport). Replied h.before.sent (Join n a.site ∷ own_log h) a.site n (reply_of z)) (sym q) (inr (own same))
         only r (inr q) = absurd q
 
-    alone : nat_le (elected_now a u made) (greatest_heard e) ≡ true → (l : List ℕ) → Good h (behind_join a u n e report l said)
+    alone : nat_le (elected_now a u made) (greatest_heard e) ≡ true → (l : List ℕ) → Good h (behind_join a u n e report l called)
     alone low [] =
-        row_verdict h said u n e.group (report ∷ []) s (said_good low) member
+        row_verdict h called u n e.group (report ∷ []) s (called_good low) member
         (λ same. subst (λ (v : Txn). is_within e.group v.sites ≡ true) same (ok same).within)
-        (λ same. subst (λ l. AtVerdict h l n) (sym (said_now same)) (at_join h n s (subst (λ l. elected l < n) still (rises low same))))
-        (λ same. subst (λ l. Reported h l e.group n (report ∷ [])) (sym (said_now same)) (reported same))
-    alone low (y ∷ ys) = said_good low
+        (λ same. subst (λ l. AtVerdict h l n) (sym (called_now same)) (at_join h n s (subst (λ l. elected l < n) still (rises low same))))
+        (λ same. subst (λ l. Reported h l e.group n (report ∷ [])) (sym (called_now same)) (reported same))
+    alone low (y ∷ ys) = called_good low
 
     by : (b : Bool) → (all_heard e && nat_lt (greatest_heard e) 4294967295 && nat_le (elected_now a u made) (greatest_heard e)) ≡ b → Good h (and_join a u e made)
     by true test = rw test (alone (and_parts (all_heard e && nat_lt (greatest_heard e) 4294967295) (nat_le (elected_now a u made) (greatest_heard e)) test).1 (others a.site e.group))

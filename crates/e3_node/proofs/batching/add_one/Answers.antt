@@ -7,8 +7,8 @@ use Rattle.e3_types.specs.declared.entries.Input.{Input}
 use Rattle.e3_types.specs.declared.records.Record.{Record}
 use Rattle.e3_wire.specs.Marks.{last_owner, most_of, used_of}
 use Rattle.e3_wire.specs.declared.marks.Mark.TheVariants as mark
-use Rattle.e3_site_log.specs.Ends.{HasRoom, HasRoomUnlessShort, IsShortIf}
-use Rattle.e3_site_log.specs.declared.writing.Short.{Short}
+use Rattle.e3_node.specs.site_log.Ends.{HasRoom, HasRoomUnlessShort, IsShortIf}
+use Rattle.e3_node.specs.declared.site_log.writing.Short.{Short}
 use Rattle.e3_node.specs.Batched.{IfReady}
 use Rattle.e3_node.specs.Briefing.{HasBody}
 use Rattle.e3_node.specs.declared.briefing.Room.{Room}

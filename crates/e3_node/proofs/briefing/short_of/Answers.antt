@@ -3,7 +3,7 @@ use Rattle.std.specs.List.{AllByRecursion as Each}
 use Rattle.e3_codec.specs.Fields.{AllCanBeReadBack}
 use Rattle.e3_world.specs.Brief.{brief}
 use Rattle.e3_node.specs.Telling.{IsOfSite}
-use Rattle.e3_site_log.proofs.Frames.{some_spelled}
+use Rattle.e3_node.proofs.site_log.Frames.{some_spelled}
 use Rattle.e3_types.specs.Spelling.{spelling}
 use Rattle.e3_types.specs.declared.records.Record.{Record}
 use Rattle.e3_node.proofs.briefing.short_of.Goals as goal

@@ -4,7 +4,7 @@ use Rattle.std.specs.Prelude.{Ok}
 use Rattle.e3_world.specs.Brief.{brief}
 use Rattle.e3_laws.proofs.brief.Laws.{are_some}
 use Rattle.e3_node.specs.Briefing.{IsReadBrief}
-use Rattle.e3_site_log.specs.Ends.{HasRoom}
+use Rattle.e3_node.specs.site_log.Ends.{HasRoom}
 use Rattle.e3_types.specs.declared.records.Record.{Record}
 use Rattle.e3_node.proofs.Briefs.{due_short, read_none, read_some}
 use Rattle.e3_node.proofs.briefing.shorten_read.Goals as goal

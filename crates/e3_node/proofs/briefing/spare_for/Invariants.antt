@@ -1,6 +1,6 @@
 -- the bytes for the inputs so far
 use Rattle.std.proofs.Common.{◌≡◌, ◌+◌, fold, take}
-use Rattle.e3_site_log.specs.Bodies.{counted}
+use Rattle.e3_node.specs.site_log.Bodies.{counted}
 use Rattle.e3_node.specs.Briefing.{spare_of}
 use Rattle.e3_node.proofs.briefing.spare_for.Given as goal
 

@@ -3,8 +3,8 @@ use Rattle.e3_codec.specs.Fields.{AllCanBeReadBack}
 use Rattle.e3_world.specs.Orderly.{IsOrderly}
 use Rattle.e3_node.specs.Bodies.{entries_at, log_with}
 use Rattle.e3_node.specs.Rising.{HasNotRaised}
-use Rattle.e3_site_log.specs.Bodies.{IsLogged, ReadsLeft}
-use Rattle.e3_site_log.specs.Ends.{HasRoomUnlessShort, IsReason, size_of}
+use Rattle.e3_node.specs.site_log.Bodies.{IsLogged, ReadsLeft}
+use Rattle.e3_node.specs.site_log.Ends.{HasRoomUnlessShort, IsReason, size_of}
 use Rattle.e3_types.specs.declared.records.Record.{Record}
 use Rattle.e3_node.proofs.Rises.{may_follow, not_raised, raised, was_logged}
 use Rattle.e3_node.proofs.rising.log_rise.Goals as goal

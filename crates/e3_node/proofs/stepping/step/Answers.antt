@@ -1,4 +1,4 @@
-use Rattle.std.proofs.Common.{◌≡◌, ◌≢◌, [], ◌∙◌, ℕ, Err, ap, sym, subst, List, length, arith}
+use Rattle.std.proofs.Common.{◌≡◌, ◌≢◌, ◌<◌, ◌^◌, [], ◌∙◌, ℕ, Err, ap, sym, subst, List, length, arith}
 use Rattle.std.specs.Prelude.{IsErrAnd, Ok, Result}
 use Rattle.e3_node.specs.Bodies.{DiskTells, entries_at}
 use Rattle.e3_node.specs.Ends.{FellOver, IsOneFrame, input_fault_of}
@@ -7,7 +7,7 @@ use Rattle.e3_node.specs.SharedStands.{HasEntered}
 use Rattle.e3_node.specs.declared.fault.InputFault.{InputFault}
 use Rattle.e3_node.specs.declared.fault.InputFault.TheVariants as input_fault
 use Rattle.e3_site.specs.SiteView.{SiteView, count_on, entry_of_plan, step_kept}
-use Rattle.e3_site_log.specs.Ends.{HasRoom, HasRoomUnlessShort, IsReason, Takes, calls_for, size_of}
+use Rattle.e3_node.specs.site_log.Ends.{HasRoom, HasRoomUnlessShort, IsReason, Takes, calls_for, size_of}
 use Rattle.e3_types.specs.declared.entries.Act.TheVariants.{Fall}
 use Rattle.e3_types.specs.declared.entries.Entry.{Entry}
 use Rattle.e3_types.specs.declared.entries.Why.{Why}
@@ -56,9 +56,11 @@ enter-requires-clause-may g c =
     let e : Entry = entry_of_plan c.args.number c.args.input step in
     let fits : length step.outs ≡ c.room_for-room.result =
     ap (λ (p : SiteStep). length p.outs) c.apply.ensures.step ∙ sym (c.room_for-room.ensures ∙ ap length c.outs.ensures) in
+    let small : c.room_for-room.result < 2 ^ 32 =
+    (let few = c.in_ok-draft.ensures.ready.few in let is : c.room_for-room.result ≡ length d.plan.step.outs = c.room_for-room.ensures ∙ ap length c.outs.ensures in omega (arith, few, is)) in
     let may : MayEnterBehind c.claim.new.shared e =
     may_enter was c.claim.new.shared _ e c.in_ok-claim.ensures.claimed c.requires.shared.some (step_allowed sc h c.args.number c.args.input step is c.requires.shared.some c.requires.up.up c.requires.due)
-    (first_takes_least sc h c.args.number c.args.input c.requires.due c.requires.first) (omega (arith, fits)) in
+    (first_takes_least sc h c.args.number c.args.input c.requires.due c.requires.first) (omega (arith, fits)) small in
     subst (λ (x : Entry). MayEnterBehind c.claim.new.shared x) (sym c.step_of-step.ensures) may
 
 pub enter-requires-clause-all : goal.enter-requires-clause-all
@@ -80,11 +82,13 @@ enter-requires-in-Err-clause-may g c =
     let rs : records ≡ (made_by sc h c.args.number c.args.input).records =
     records_made sc h c.args.number c.args.input c.into_step-made.result (c.into_step-made.ensures ∙ made.step_is) in
     let e : Entry = record { owner = c.args.number; act = Fall d.inputs records c.in-Err.why } in
+    let small : c.room_for-room.result < 2 ^ 32 =
+    (let few = c.in_ok-draft.ensures.ready.few in let is : c.room_for-room.result ≡ length d.plan.step.outs = c.room_for-room.ensures ∙ ap length c.outs.ensures in omega (arith, few, is)) in
     let may : MayEnterBehind c.claim.new.shared e =
     may_enter was c.claim.new.shared _ e c.in_ok-claim.ensures.claimed c.requires.shared.some
     (fall_allowed sc h c.args.number c.args.input d.inputs records c.in-Err.why made.inputs_are rs c.requires.shared.some c.requires.up.up c.requires.due
     (λ none. c.in-Err.ensures.some (c.records-records.ensures ∙ records_made sc h c.args.number c.args.input d.plan.step made.step_is ∙ sym rs ∙ none)))
-    (fall_takes sc h c.args.number c.args.input d.inputs made.inputs_are (first_takes_least sc h c.args.number c.args.input c.requires.due c.requires.first)) (omega arith) in
+    (fall_takes sc h c.args.number c.args.input d.inputs made.inputs_are (first_takes_least sc h c.args.number c.args.input c.requires.due c.requires.first)) (omega arith) small in
     subst (λ (x : Entry). MayEnterBehind c.claim.new.shared x) (sym c.fall_of-fall.ensures) may
 
 pub enter-requires-in-Err-clause-all : goal.enter-requires-in-Err-clause-all

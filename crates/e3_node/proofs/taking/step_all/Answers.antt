@@ -7,8 +7,8 @@ use Rattle.e3_node.specs.Bodies.{entries_at}
 use Rattle.e3_node.specs.Briefing.{BriefsAreTold}
 use Rattle.e3_node.specs.Several.{AreOf, marks_in}
 use Rattle.e3_node.specs.Turns.{history_seen, scenario_seen}
-use Rattle.e3_site_log.specs.Bodies.{IsLogged, ReadsLeft}
-use Rattle.e3_site_log.specs.Ends.{IsBehind, IsPut, HasRoom, HasRoomUnlessShort, IsReason, Takes, calls_for, size_of}
+use Rattle.e3_node.specs.site_log.Bodies.{IsLogged, ReadsLeft}
+use Rattle.e3_node.specs.site_log.Ends.{IsBehind, IsPut, HasRoom, HasRoomUnlessShort, IsReason, Takes, calls_for, size_of}
 use Rattle.e3_turn.specs.Passes.{GrewByOthers, Owns, seen_by}
 use Rattle.e3_types.specs.Spelling.{spelling}
 use Rattle.e3_types.specs.declared.entries.Act.TheVariants.{Fall}

@@ -7,7 +7,7 @@ use Rattle.e3_node.specs.NodeStands.{IsUp, StandsBy}
 use Rattle.e3_node.specs.Turns.{IsStill, history_seen, scenario_seen}
 use Rattle.e3_node.specs.declared.state.State.TheVariants.{Up}
 use Rattle.e3_site.specs.SiteView.{SiteView, count_on, entry_of_plan, step_kept}
-use Rattle.e3_site_log.specs.Ends.{HasRoom, HasRoomUnlessShort, IsReason, Takes, calls_for, size_of}
+use Rattle.e3_node.specs.site_log.Ends.{HasRoom, HasRoomUnlessShort, IsReason, Takes, calls_for, size_of}
 use Rattle.e3_turn.specs.Passes.{GrewByOthers, Owns, seen_by}
 use Rattle.e3_types.specs.declared.entries.Act.TheVariants.{Fall}
 use Rattle.e3_types.specs.declared.entries.Entry.{Entry}

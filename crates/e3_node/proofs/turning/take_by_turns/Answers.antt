@@ -4,7 +4,7 @@ use Rattle.e3_node.specs.NodeView.{disk_of}
 use Rattle.e3_node.specs.Turns.{history_seen, scenario_seen}
 use Rattle.e3_turn.specs.Passes.{seen_by}
 use Rattle.e3_node.specs.declared.state.State.{State}
-use Rattle.e3_site_log.specs.Ends.{IsReason}
+use Rattle.e3_node.specs.site_log.Ends.{IsReason}
 use Rattle.e3_types.specs.declared.entries.Why.TheVariants.{Fault}
 use Rattle.e3_world.specs.Legal.{made_by}
 use Rattle.e3_world.specs.Moves.{log_of}

@@ -25,7 +25,7 @@ returns-in-Some-clause-full g c is =
     let P : List Entry → Type 0 = λ h. IsFull c.args.scenario.now h (g.S.Sites.most c.args.sites.now) in
     subst P (sym (of_err c.parts.result HistoryFull is c.parts.ensures.kept)) (
     parts_full c.args.scenario.now (g.S.Sites.entries c.args.sites.now) c.args.items.now c.in-Some.parts (g.S.Sites.most c.args.sites.now)
-    c.requires.fresh (sym c.in_ok-parts.ensures ∙ c.in-Some.is) (g.met.S.Sites.within c.args.sites.now c.requires.standing) (c.parts.ensures.full is))
+    c.requires.fresh c.requires.form (sym c.in_ok-parts.ensures ∙ c.in-Some.is) (g.met.S.Sites.within c.args.sites.now c.requires.standing) (c.parts.ensures.full is))
 
 pub returns-in-None-clause-asked : goal.returns-in-None-clause-asked
 returns-in-None-clause-asked g c =

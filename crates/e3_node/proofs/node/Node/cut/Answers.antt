@@ -27,7 +27,7 @@ enter-requires-clause-may g c =
     let crash : IsCut sc h c.self.inside.site = subst (λ (x : NodeView _). IsCut sc h x.site) (sym c.self.view_is) (c.requires.crash up) in
     let some : 1 ≤ c.self.inside.site = subst (λ (x : NodeView _). 1 ≤ x.site) (sym c.self.view_is) c.requires.standing.some in
     let e : Entry = record { owner = c.self.inside.site; act = Cut } in
-    may_enter was c.claim.new.shared 0 e c.in_ok-claim.ensures.claimed some (cut_guard sc h c.self.inside.site some crash) tt (omega arith)
+    may_enter was c.claim.new.shared 0 e c.in_ok-claim.ensures.claimed some (cut_guard sc h c.self.inside.site some crash) tt (omega arith) (omega arith)
 
 pub enter-requires-clause-all : goal.enter-requires-clause-all
 enter-requires-clause-all g c =

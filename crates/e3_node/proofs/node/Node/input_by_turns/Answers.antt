@@ -3,7 +3,7 @@ use Rattle.e3_node.specs.Ends.{HasRoomBehind, IsOneFrame, OnLogs}
 use Rattle.e3_node.specs.NodeStands.{IsIn}
 use Rattle.e3_node.specs.NodeView.{NodeView, disk_of}
 use Rattle.e3_node.specs.Turns.{HasKeptPromises, Meanwhile, history_seen, scenario_seen}
-use Rattle.e3_site_log.specs.Ends.{Takes, calls_for}
+use Rattle.e3_node.specs.site_log.Ends.{Takes, calls_for}
 use Rattle.e3_types.specs.declared.entries.Why.TheVariants.{Fault}
 use Rattle.e3_turn.specs.Passes.{Owns, seen_by}
 use Rattle.e3_wire.specs.Marks.{last_owner}

@@ -1,7 +1,7 @@
 use Rattle.std.proofs.Common.{◌+◌, ◌≤◌, ◌++◌, List, ap, sym, subst, ◌∙◌, arith}
 use Rattle.e3_wire.specs.declared.marks.Mark.{Mark}
 use Rattle.e3_wire.specs.Marks.{last_owner, most_of, places_for, used_of}
-use Rattle.e3_wire.proofs.Claiming.{can_be_noted, few_are, marks_placed, placed}
+use Rattle.e3_wire.proofs.Claiming.{can_be_noted, few_are, marks_placed, placed, room_alone}
 use Rattle.e3_wire.proofs.shared.Shared.promise_places.Goals as goal
 
 pub make_room-requires-clause-few : goal.make_room-requires-clause-few
@@ -10,17 +10,17 @@ make_room-requires-clause-few c = few_are _ _ _ _ _ _ _ _ _ _ _ _ c.self.invaria
 pub note_claim-requires-clause-owner : goal.note_claim-requires-clause-owner
 note_claim-requires-clause-owner c =
     let owner = subst (λ (l : List Mark). c.args.owner ≤ last_owner l) (sym c.self.view_is) c.requires.owner in
-    (can_be_noted _ _ _ _ _ _ _ _ _ _ _ _ c.args.owner c.args.count 0 c.self.invariant owner c.ranges.count.fits (let few = c.self.invariant.counted in omega (arith, few))).note
+    (can_be_noted _ _ _ _ _ _ _ _ _ _ _ _ c.args.owner c.args.count 0 c.self.invariant owner c.ranges.count.fits (room_alone _ _ _ _ _ _ _ _ _ _ _ _ c.self.invariant)).note
 
 pub note_claim-requires-clause-places : goal.note_claim-requires-clause-places
 note_claim-requires-clause-places c =
     let owner = subst (λ (l : List Mark). c.args.owner ≤ last_owner l) (sym c.self.view_is) c.requires.owner in
-    (can_be_noted _ _ _ _ _ _ _ _ _ _ _ _ c.args.owner c.args.count 0 c.self.invariant owner c.ranges.count.fits (let few = c.self.invariant.counted in omega (arith, few))).places
+    (can_be_noted _ _ _ _ _ _ _ _ _ _ _ _ c.args.owner c.args.count 0 c.self.invariant owner c.ranges.count.fits (room_alone _ _ _ _ _ _ _ _ _ _ _ _ c.self.invariant)).places
 
 pub note_claim-requires-clause-room : goal.note_claim-requires-clause-room
 note_claim-requires-clause-room c =
     let owner = subst (λ (l : List Mark). c.args.owner ≤ last_owner l) (sym c.self.view_is) c.requires.owner in
-    (can_be_noted _ _ _ _ _ _ _ _ _ _ _ _ c.args.owner c.args.count 0 c.self.invariant owner c.ranges.count.fits (let few = c.self.invariant.counted in omega (arith, few))).room
+    (can_be_noted _ _ _ _ _ _ _ _ _ _ _ _ c.args.owner c.args.count 0 c.self.invariant owner c.ranges.count.fits (room_alone _ _ _ _ _ _ _ _ _ _ _ _ c.self.invariant)).room
 
 pub invariant_of-self-2 : goal.invariant_of-self-2
 invariant_of-self-2 c =
