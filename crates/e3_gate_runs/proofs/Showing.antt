@@ -87,7 +87,7 @@ module _ (law : PlacesPromise) (wire : TableId) (p : APass) (marks now : List Ma
   shown_by q same seen = record {
     owns = owns_same p q same taken.all site (let l = held_last wire p marks taken in let s = same.last in omega (arith, l, s, exists));
     places = (let P : List Mark → Type 0 = λ l. length few ≤ (note_of site l).places in
-        subst P (sym (seen ∙ is)) (let own : (note_of site (marks ++ places_for site (length few))).places ≡ (note_of site marks).places + length few = ap (λ (n : Note). n.places) noted.own in omega (arith, own)));
+        subst P (sym (seen ∙ is)) (let own : (note_of site (marks ++ places_for site (length few))).places ≡ (note_of site marks).places + length few = ap (λ (n : Note). n.places) noted.noted in omega (arith, own)));
     scenario = ap scenario_of (seen ∙ is) ∙ noted.scenario;
     entries = ap entries_of (seen ∙ is) ∙ noted.entries;
   }

@@ -130,6 +130,7 @@ impl Prefix<'_> {
     fn listed(&self, group: SiteSet) -> Result<List<RecoveryRound>, NoMemory>
         ensures { IfOk result (λ rounds. rounds ≡ listed self.now.scenario.now self.now.entries.now group) }
     {
+        let _members = group.count();
         let up = up_in(self.alloc, self.entries, group)?;
         let open = self.open_of(up.as_slice())?;
         rounds_of(self.alloc, open.as_slice(), up.as_slice())

@@ -19,7 +19,7 @@ pub fn packets_fall_in_rank()
 /// A step depends on the site's own entries alone, but for the numbers of its packets; and the number of the packet that
 /// it takes is nothing to it.
 pub fn steps_are_local()
-    ensures own { StepIsOwn }
+    ensures entries { StepIsOwn }
     ensures numbers { NumbersAreAll }
     ensures taken { TakenNumberIsNothing }
 {}

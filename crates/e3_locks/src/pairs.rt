@@ -70,13 +70,13 @@ pub(crate) fn first_of(pairs: &[Pair], t: &Txn) -> usize
 // The transaction's pairs.
 pub(crate) fn pairs_of<'a>(pairs: &'a [Pair], t: &Txn) -> &'a [Pair]
     requires { IsAscending pair_key pairs.now }
-    ensures own { Each (λ p. key_of p.txn ≡ key_of t.now) result.now }
+    ensures of_txn { Each (λ p. key_of p.txn ≡ key_of t.now) result.now }
     ensures ascending { IsAscending pair_key result.now }
     ensures all { (n : Items ℕ) → HasKey (key_of t.now ++ n) pairs.now → HasKey (key_of t.now ++ n) result.now }
 {
     let at = first_of(pairs, t);
     let mut end = at;
-    'own: while end < pairs.len() && pairs[end].is_of(t) {
+    'these: while end < pairs.len() && pairs[end].is_of(t) {
         end += 1;
     }
     &pairs[at..end]
@@ -88,7 +88,7 @@ fn add_pair(pairs: &mut Vec<Pair>, txn: &Txn, name: &Name)
     requires room { vec_len pairs.old < vec_capacity pairs.old }
     ensures ascending { IsAscending pair_key pairs.new.items }
     ensures more { (k : Items ℕ) → HasKey k pairs.old.items → HasKey k pairs.new.items }
-    ensures own { HasKey (key_of txn.now ++ name.now) pairs.new.items }
+    ensures there { HasKey (key_of txn.now ++ name.now) pairs.new.items }
 {
     match place_of_pair(pairs, txn, name.bytes()) {
         Ok(_) => {}
@@ -110,7 +110,7 @@ pub(crate) fn add_put(pairs: &mut Vec<Pair>, grant: &Grant, txn: &Txn, name: &Na
     requires room { vec_len pairs.old < vec_capacity pairs.old }
     ensures ascending { IsAscending pair_key pairs.new.items }
     ensures more { (k : Items ℕ) → HasKey k pairs.old.items → HasKey k pairs.new.items }
-    ensures own { IsPut grant.now → HasKey (key_of txn.now ++ name.now) pairs.new.items }
+    ensures there { IsPut grant.now → HasKey (key_of txn.now ++ name.now) pairs.new.items }
 {
     match grant {
         Grant::Held | Grant::Waits => add_pair(pairs, txn, name),

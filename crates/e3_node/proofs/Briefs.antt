@@ -159,7 +159,7 @@ brief_now logs sounds mentions begun votes sc h site rose s given legal stands r
   same = sym (same_brief (log_of sc h site) (present_log now) both.1);
   orderly = subst (λ (n : ℕ). IsOrderly n (log_of sc h site)) (sym stands.site_is) order.orderly;
   some = some;
-  own = subst (λ (n : ℕ). Each (IsOfSite n) (brief (log_of sc h site))) (sym stands.site_is) (brief_own site (log_of sc h site) (log_own mentions begun votes sc h site given legal));
+  of_site = subst (λ (n : ℕ). Each (IsOfSite n) (brief (log_of sc h site))) (sym stands.site_is) (brief_own site (log_of sc h site) (log_own mentions begun votes sc h site given legal));
 }
   where
     now : Incarnation
@@ -183,7 +183,7 @@ brief_read site read l up is brief_is some begun = record {
   same = ap brief (append-nil read) ∙ brief_is.same;
   orderly = subst (λ (n : ℕ). IsOrderly n l) (sym is.site_is) brief_is.log_orderly;
   some = some;
-  own = subst (λ (n : ℕ). Each (IsOfSite n) (brief l)) (sym is.site_is) brief_is.own;
+  of_site = subst (λ (n : ℕ). Each (IsOfSite n) (brief l)) (sym is.site_is) brief_is.of_site;
 }
   where
     now : Incarnation

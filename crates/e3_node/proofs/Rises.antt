@@ -257,7 +257,7 @@ module _ {D : Type 0} (meaning : Meaning D) (logs : LogsAreOrderly) (sets : Logg
         log_orderly = orderly logs sets sounds sc h wish may ready.kept what.some;
         known = subst (λ (ts : List Txn). Each IsFoundByBits ts) (ap txns_of now ∙ no_txns kept_log up_next ∙ (same_alike wish.site kept_log is.read
             (orderly logs sets sounds sc h wish may ready.kept what.some) orderly_read (sym same_brief)).txns) all.known;
-        own = brief_own wish.site kept_log own;
+        of_site = brief_own wish.site kept_log own;
       }
 
   inc_now : ready.inc ≡ up_next

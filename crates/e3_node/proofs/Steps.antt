@@ -162,7 +162,7 @@ ready_draft now i old new (Ok d) plan is draft made few own room = record {
   drafted = draft;
   made = ap (λ (p : PlanView). p.step) is ∙ made;
   few = subst (λ (p : PlanView). length p.step.outs < 2 ^ 32) (sym is) few;
-  own = subst (λ (p : PlanView). IsPlanOf p new) (sym is) own;
+  of_site = subst (λ (p : PlanView). IsPlanOf p new) (sym is) own;
   room = subst (λ (p : PlanView). HasRoomFor p new) (sym is) room;
 }
 ready_draft now i old new (Err none) plan is draft made few own room = tt

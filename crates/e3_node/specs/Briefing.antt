@@ -32,7 +32,7 @@ pub record IsBriefOf (s : SiteView) (log : List Record) : Type 0 where
   pub same : brief (present_log now) ≡ brief log
   pub orderly : IsOrderly s.site log
   pub some : log ≢ []
-  pub own : Each (IsOfSite s.site) (brief log)
+  pub of_site : Each (IsOfSite s.site) (brief log)
 
 -- whatever value stands for this history, as a site that rose with these records, tells the brief of the log there
 abbrev pub BriefsAreTold : Scenario → List Entry → ℕ → List Record → Type 0
@@ -44,7 +44,7 @@ pub record IsReadBrief (site : ℕ) (read log : List Record) : Type 0 where
   pub same : brief read ≡ brief log
   pub log_orderly : IsOrderly site log
   pub known : Each IsFoundByBits (txns_of read)
-  pub own : Each (IsOfSite site) (brief log)
+  pub of_site : Each (IsOfSite site) (brief log)
 
 -- a short log has a body, where there is one
 abbrev pub HasBody : Option Short → Type 0

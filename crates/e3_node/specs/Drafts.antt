@@ -26,7 +26,7 @@ pub record IsReady (now : Incarnation) (i : Input) (old new : SiteView) (draft :
   pub drafted : IsDraft i draft
   pub made : draft.plan.step ≡ planned_step now old i
   pub few : length draft.plan.step.outs < 2 ^ 32
-  pub own : IsPlanOf draft.plan new
+  pub of_site : IsPlanOf draft.plan new
   pub room : HasRoomFor draft.plan new
 
 -- for every history for which the old value stands, by whatever records, the new one does

@@ -204,7 +204,7 @@ pub(crate) fn enter_rise(shared: &mut Shared, owner: u32, raised: Raised)
 
 /// What became of a rise, as it is told.
 pub(crate) fn told(raised: Raised) -> Result<u32, RiseFault>
-    requires own { raised ≢ raises.Foreign }
+    requires not_foreign { raised ≢ raises.Foreign }
     ensures { result ≡ told_of raised }
 {
     match raised {

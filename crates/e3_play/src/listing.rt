@@ -47,6 +47,7 @@ pub(crate) fn listed<S: Sites>(
     requires standing { S.stands sites.now }
     ensures { IfOk result (λ rounds. rounds ≡ listed (S.scenario sites.now) (S.entries sites.now) group) }
 {
+    let _members = group.count();
     let up = up_in(alloc, sites, group)?;
     let open = open_of(alloc, sites, group)?;
     rounds_of(alloc, open.as_slice(), up.as_slice())

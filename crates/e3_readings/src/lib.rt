@@ -13,7 +13,7 @@ mod lives;
 mod logs;
 mod opens;
 mod operations;
-mod own;
+mod own_writes;
 mod places;
 mod recovery_rounds;
 mod rounds;
@@ -44,7 +44,7 @@ pub use operations::{
     issued, issued_in, kept_reason, nth_op, own_expected, queue, reasons_in, same_asked, tells_own,
     unanswered, waiting,
 };
-pub use own::{last_own, own_write};
+pub use own_writes::{last_own, own_write};
 pub use places::{SiteRecord, add_placed};
 pub use recovery_rounds::{RecoveryRound, rounds_of};
 pub use rounds::{Rounds, round_in_progress};

@@ -1,8 +1,8 @@
 // The rounds of a recovery step.
-ghost use Rattle.std.specs.Prelude.{◌≡◌, ◌++◌, [], filter, fold, IfOk};
+ghost use Rattle.std.specs.Prelude.{◌≡◌, ◌++◌, [], filter, fold, IfOk, IsTrue};
 ghost use Rattle.std.specs.List.{flat_map};
 ghost use Rattle.e3_readings.specs.RoundOf.{round_of};
-ghost use Rattle.e3_types.specs.Sets.{has_site};
+ghost use Rattle.e3_types.specs.Sets.{has_site, is_set};
 ghost use Rattle.e3_world.specs.Items.{add_txn};
 
 use crate::opens::in_order;
@@ -41,15 +41,27 @@ fn sites_in(alloc: Global, set: SiteSet, sites: &[u32]) -> Result<List<u32>, NoM
     Ok(out)
 }
 
-// Adds the round of a transaction with these members, where there is one. Their numbers are those of a set.
+// The set of sites that ascend.
+fn set_of(sites: &[u32]) -> SiteSet
+    requires { IsTrue (is_set sites.now) }
+    ensures { result ≡ sites.now }
+{
+    match SiteSet::of(sites) {
+        Some(set) => set,
+        None => unreachable!(),
+    }
+}
+
+// Adds the round of a transaction with these members, where there is one.
 fn add_round(t: &Txn, members: &[u32], out: &mut List<RecoveryRound>) -> Result<(), NoMemory>
+    requires { IsTrue (is_set members.now) }
     ensures { IfOk result (λ u. out.new ≡ out.old ++ round_of t.now members.now) }
 {
     match members {
         [] => Ok(()),
         [elector, ..] => out.push(RecoveryRound {
             txn: *t,
-            members: SiteSet::of(members).ok_or(NoMemory)?,
+            members: set_of(members),
             elector: *elector,
         }),
     }
@@ -57,6 +69,7 @@ fn add_round(t: &Txn, members: &[u32], out: &mut List<RecoveryRound>) -> Result<
 
 // The rounds of these transactions, one after the other, by the sites that are up.
 fn rounds_in_turn(alloc: Global, txns: &[Txn], up: &[u32]) -> Result<List<RecoveryRound>, NoMemory>
+    requires { IsTrue (is_set up.now) }
     ensures { IfOk result (λ rounds. rounds ≡ flat_map (λ t. round_of t (filter (has_site t.sites) up.now)) txns.now) }
 {
     let mut rounds = List::new(alloc);
@@ -69,9 +82,10 @@ fn rounds_in_turn(alloc: Global, txns: &[Txn], up: &[u32]) -> Result<List<Recove
 
 /// The rounds of a recovery step, where these transactions are open and these members of its group are up: one for each
 /// transaction, in ascending order; none of one that none of these is a site of. Want of memory is the only error.
-pub fn rounds_of(alloc: Global, open: &[Txn], up: &[u32]) -> Result<List<RecoveryRound>, NoMemory>
-    ensures { IfOk result (λ rounds. rounds ≡ flat_map (λ t. round_of t (filter (has_site t.sites) up.now)) (fold add_txn [] open.now)) }
+pub fn rounds_of(alloc: Global, txns: &[Txn], up: &[u32]) -> Result<List<RecoveryRound>, NoMemory>
+    requires { IsTrue (is_set up.now) }
+    ensures { IfOk result (λ rounds. rounds ≡ flat_map (λ t. round_of t (filter (has_site t.sites) up.now)) (fold add_txn [] txns.now)) }
 {
-    let txns = in_order(alloc, open)?;
+    let txns = in_order(alloc, txns)?;
     rounds_in_turn(alloc, txns.as_slice(), up)
 }

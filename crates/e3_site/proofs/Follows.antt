@@ -86,7 +86,7 @@ birth-follows site before format number weights rows h =
     record {
       first = empty-length before first.0;
       one = eqb-true format 1 first.1;
-      own = eqb-true number site own.1;
+      of_site = eqb-true number site own.1;
       known = among-weighed site weights ∙ known.1;
       few = le-from _ _ few.0;
       weighed = few.1;
@@ -97,7 +97,7 @@ follows-birth : (site : ℕ) (before : List Record) (format number : ℕ) (weigh
     IsBirth site before format number weights rows → is_birth site before format number weights rows ≡ true
 follows-birth site before format number weights rows b =
     let first : (length before == 0) ≡ true = rw b.first refl in
-    and_from _ _ (and_from _ _ (and_from _ _ (and_from _ _ (and_from _ _ first (eq-eqb format 1 b.one)) (eq-eqb number site b.own))
+    and_from _ _ (and_from _ _ (and_from _ _ (and_from _ _ (and_from _ _ first (eq-eqb format 1 b.one)) (eq-eqb number site b.of_site))
     (sym (among-weighed site weights) ∙ b.known)) (and_from _ _ (le-to _ _ b.few) b.weighed)) b.ascending
 
 -- a later incarnation is one more than the last, and the first is any

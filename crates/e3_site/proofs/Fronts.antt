@@ -35,7 +35,7 @@ born_one site rows (log.Birth format number weights was ∷ rest) orderly some =
     let stands : first ≢ [] = λ e. absurd cc in
     let none : born_in rows rest ≡ [] = rest_births site rows first rest stands orderly.1 in
     let same : weights_in (log.Birth format number weights was ∷ rest) ≡ weights = rest_weights site first rest stands orderly.1 in
-    ap (λ (x : List Record). log.Birth format number weights rows ∷ x) none ∙ (λ i. log.Birth (orderly.0.one i) (orderly.0.own i) (sym same i) rows ∷ [])
+    ap (λ (x : List Record). log.Birth format number weights rows ∷ x) none ∙ (λ i. log.Birth (orderly.0.one i) (orderly.0.of_site i) (sym same i) rows ∷ [])
 born_one site rows (log.Inc n ∷ rest) orderly some = absurd (orderly.0.born refl)
 born_one site rows (log.Vote t ops ∷ rest) orderly some = absurd (let h : false ≡ true = orderly.0.known in cc)
 born_one site rows (log.Join t n ∷ rest) orderly some = absurd (let h : false ≡ true = orderly.0.known in cc)

@@ -11,7 +11,7 @@ use Rattle.e3_site.specs.past.Standing.{LoggedStand}
 use Rattle.e3_site.specs.Orderly.{IsFirstDisorder, disorder_after, disorder_in, is_orderly_next}
 use Rattle.e3_site.specs.Reading.{AreRead, IsLogRead}
 use Rattle.e3_site.proofs.Firsts.{disorder_found}
-use Rattle.e3_site.proofs.Known.{orderly_known}
+use Rattle.e3_site.proofs.Known.{orderly_known, read_one_more}
 
 take_more : (xs : List Record) (k : ℕ) (x : Record) → k < length xs → x ≡ get_or xs k x → take (k + 1) xs ≡ take k xs ++ x ∷ []
 take_more xs k x lt is = grind (arith, common_steps, lt, is)
@@ -31,18 +31,19 @@ drop_whole xs k e = grind (arith, common_steps, e)
 -- one more record is read
 pub read_more : (site rising : ℕ) (records : List Record) (k : ℕ) (r : Record) (was now : Logged) (inc next : ℕ) (weights more : List ℕ) → k < length records → r ≡ get_or records k r
     → ((s i : ℕ) → (log : List Record) → LoggedStand s was i log → LoggedStand s now i (log ++ r ∷ [])) → next ≡ logged_inc_by inc r → more ≡ weights_by weights r
-    → AreRead site rising (take k records) was inc weights → AreRead site rising (take (k + 1) records) now next more
-read_more site rising records k r was now inc next weights more lt is reads incs weighs are =
+    → is_orderly_next site (take k records) r ≡ true → AreRead site rising (take k records) was inc weights → AreRead site rising (take (k + 1) records) now next more
+read_more site rising records k r was now inc next weights more lt is reads incs weighs may are =
     let P : List Record → Type 0 = λ l. AreRead site rising l now next more in
     subst P (sym (take_more records k r lt is)) (record {
       stand = reads site rising (take k records) are.stand;
+      in_turn = read_one_more site (take k records) r are.in_turn may;
       inc_is = incs ∙ ap (λ (n : ℕ). logged_inc_by n r) are.inc_is ∙ sym (fold-append logged_inc_by 0 (take k records) (r ∷ []));
       weights_are = weighs ∙ ap (λ (ws : List ℕ). weights_by ws r) are.weights_are ∙ sym (fold-append weights_by [] (take k records) (r ∷ []));
     })
 
 -- no record is read yet
 pub read_none : (site rising : ℕ) (records : List Record) (read : Logged) → LoggedStand site read rising [] → AreRead site rising (take 0 records) read 0 []
-read_none site rising records read stand = record { stand = stand; inc_is = refl; weights_are = refl }
+read_none site rising records read stand = record { stand = stand; in_turn = refl; inc_is = refl; weights_are = refl }
 
 -- the walk goes on behind a record that may stand there
 pub goes_on : (site : ℕ) (records : List Record) (k : ℕ) (r : Record) → k < length records → r ≡ get_or records k r → is_orderly_next site (take k records) r ≡ true

@@ -1,19 +1,20 @@
 -- Tables of the records before another one.
-use Rattle.std.specs.Prelude.{◌≡◌, ℕ, List}
+use Rattle.std.specs.Prelude.{◌≡◌, [], ℕ, true, List}
 use Rattle.std.specs.Option.{IsSome}
 use Rattle.e3_types.specs.declared.records.Record.{Record}
 use Rattle.e3_world.specs.Logs.{logged_inc}
 use Rattle.e3_world.specs.Orderly.{weights_in, IsOrderly}
 use Rattle.e3_site.specs.declared.past.logged.Logged.{Logged}
-use Rattle.e3_site.specs.past.Standing.{LoggedStand}
+use Rattle.e3_site.specs.past.Standing.{LoggedStand, may_all_be_read}
 use Rattle.e3_site.specs.declared.disorder.Walk.{Walk}
 use Rattle.e3_site.specs.declared.disorder.Walk.TheVariants.{Log, Disorder}
 use Rattle.e3_site.specs.Orderly.{IsFirstDisorder}
 
--- the tables are those of the records at a site that rises in some incarnation; the incarnation of their last Inc and the
--- weights by their birth are these
+-- the tables are those of the records at a site that rises in some incarnation, each of which may be read behind those before
+-- it; the incarnation of their last Inc and the weights by their birth are these
 pub record AreRead (site rising : ℕ) (records : List Record) (read : Logged) (inc : ℕ) (weights : List ℕ) : Type 0 where
   pub stand : LoggedStand site read rising records
+  pub in_turn : may_all_be_read [] records ≡ true
   pub inc_is : inc ≡ logged_inc records
   pub weights_are : weights ≡ weights_in records
 

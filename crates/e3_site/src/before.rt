@@ -87,7 +87,7 @@ impl<'a> Before for Plain<'a> {
 }
 
 /// Tables of the records, with the incarnation of the last Inc and the weights by the birth. A reading costs what is known of
-/// its transaction or name. The records are read where there are no tables of names.
+/// its transaction or name. There are tables of names, since each record may be read behind those before it.
 #[derive(Drop)]
 pub(crate) struct Tabled<'a> {
     pub site: u32,
@@ -165,7 +165,7 @@ impl<'a> Before for Tabled<'a> {
         let read = self.read;
         match &read.places {
             Some(places) => is_free_on(places, t, o),
-            None => is_free_among(t, self.records, o),
+            None => unreachable!(),
         }
     }
 }

@@ -52,7 +52,7 @@ fn fitted<T: Drop>(items: List<T>) -> List<T>
     List::from_vec(items)
 }
 
-// The step as a site keeps it. No memory has 2^32 packets.
+// The step as a site keeps it. Its packets are counted in 32 bits; more of them want memory.
 fn kept(alloc: Global, input: &Input, made: Made) -> Result<SiteStep, NoMemory>
     ensures kept { IfOk result (λ step. step ≡ step_kept input.now made) }
     ensures few { IfOk result (λ step. length step.outs < 2 ^ 32) }
@@ -78,7 +78,7 @@ impl Plan {
         made: Made,
     ) -> Result<Plan, NoMemory>
         ensures kept { IfOk result (λ plan. plan.step ≡ step_kept input.now made) }
-        ensures own { IfOk result (λ plan. IsMadeOf tables.now plan.step plan.behind) }
+        ensures of_tables { IfOk result (λ plan. IsMadeOf tables.now plan.step plan.behind) }
         ensures few { IfOk result (λ plan. length plan.step.outs < 2 ^ 32) }
     {
         let step = kept(alloc, input, made)?;

@@ -72,7 +72,7 @@ impl Site {
         ghost now: { Incarnation }
         requires { Stands now self.now }
         ensures made { IfOk result (λ plan. plan.step ≡ planned_step now self.now input.now) }
-        ensures own { IfOk result (λ plan. IsPlanOf plan self.now) }
+        ensures of_site { IfOk result (λ plan. IsPlanOf plan self.now) }
         ensures few { IfOk result (λ plan. length plan.step.outs < 2 ^ 32) }
     {
         let tables = &self.tables;
@@ -92,7 +92,7 @@ impl Site {
         ghost now: { Incarnation }
         requires { Stands now self.now }
         ensures made { IfOk result (λ plan. plan.step ≡ planned_step now self.now input.now) }
-        ensures own { IfOk result (λ plan. IsPlanOf plan self.now) }
+        ensures of_site { IfOk result (λ plan. IsPlanOf plan self.now) }
         ensures stands { IfOk result (λ plan. PlansStep now self.now input.now plan.step) }
         ensures few { IfOk result (λ plan. length plan.step.outs < 2 ^ 32) }
     {
@@ -104,7 +104,7 @@ impl Site {
         ensures same { self.new ≡ record self.old { tables = self.new.tables } }
         ensures stand { (now : Incarnation) → Stands now self.old → Stands now self.new }
         ensures stands { StandsStill self.old self.new }
-        ensures own { (now : Incarnation) → Stands now self.old → IsPlanOf plan.now self.old → IsPlanOf plan.now self.new }
+        ensures of_site { (now : Incarnation) → Stands now self.old → IsPlanOf plan.now self.old → IsPlanOf plan.now self.new }
         ensures ok { OnOk result (HasRoomFor plan.now self.new) }
     {
         ready(self.alloc, &mut self.tables, plan.behind())
@@ -113,7 +113,7 @@ impl Site {
     /// Does the step of a plan of this site, and gives it back. The site stands for the incarnation with that step, if the step
     /// is what some input makes it do there. It takes no memory.
     pub fn apply(&mut self, plan: Plan) -> SiteStep
-        requires own { IsPlanOf plan self.old }
+        requires of_site { IsPlanOf plan self.old }
         requires room { HasRoomFor plan self.old }
         ensures step { result ≡ plan.step }
         ensures done { self.new ≡ record self.old { inputs = count_on self.old.inputs; tables = self.new.tables } }

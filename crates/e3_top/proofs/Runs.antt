@@ -25,7 +25,6 @@ use Rattle.e3_scenario.specs.declared.faults.ScenarioFault.TheVariants as fault
 use Rattle.e3_top.specs.Outcomes.{IsAsked, IsOutcome, IsRunOf, IsTextOf, NothingHappened, Plays, Succeeds, told_of}
 use Rattle.e3_top.specs.Ends.{IsPrepared}
 use Rattle.e3_top.proofs.Spelled.{run_no_check, run_no_drill, run_no_gen, gen_no_check, plays_no_check}
-use Rattle.e3_top.proofs.Statuses.{neither}
 use Rattle.e3_top.specs.Words.{IsRun, refused_words}
 use Rattle.e3_top.specs.Commands.{IsCommand, Spell}
 use Rattle.e3_top.specs.declared.commands.Command.TheVariants.{Run, Gen, Drill, Check}
@@ -85,7 +84,8 @@ played_text meaning before now words bytes sc most status h told text plays safe
   words_refused = λ e. absurd (let zero = done.0 in omega (arith, e, zero));
   scenario_refused = λ e. absurd (let zero = done.0 in omega (arith, e, zero));
   history_full = λ e. absurd (let zero = done.0 in omega (arith, e, zero));
-  judged = let zero = done.0 in neither status 8 9 (λ e. omega (arith, e, zero)) (λ e. omega (arith, e, zero));
+  illegal = λ e. absurd (let zero = done.0 in omega (arith, e, zero));
+  no_trace = λ e. absurd (let zero = done.0 in omega (arith, e, zero));
   checked = λ check. absurd (plays_no_check plays check);
 }
 played_text meaning before now words bytes sc most status h told text plays safe succeeds (inr full) = record {
@@ -102,7 +102,8 @@ played_text meaning before now words bytes sc most status h told text plays safe
     safe = safe;
     says = full.2;
   };
-  judged = let six = full.0 in neither status 8 9 (λ e. omega (arith, e, six)) (λ e. omega (arith, e, six));
+  illegal = λ e. absurd (let six = full.0 in omega (arith, e, six));
+  no_trace = λ e. absurd (let six = full.0 in omega (arith, e, six));
   checked = λ check. absurd (plays_no_check plays check);
 }
 
@@ -132,7 +133,8 @@ refused_run meaning before now words most h text other nothing says = record {
   words_refused = λ e. record { no_command = other; unread = refl; empty = nothing.0; untouched = nothing.1; says = says };
   scenario_refused = λ e. absurd (omega (arith, e));
   history_full = λ e. absurd (omega (arith, e));
-  judged = neither 1 8 9 (λ e. omega (arith, e)) (λ e. omega (arith, e));
+  illegal = λ e. absurd (omega (arith, e));
+  no_trace = λ e. absurd (omega (arith, e));
   checked = λ check. absurd (other (record { command = Check; spelled = check.spelled }));
 }
 
@@ -145,7 +147,8 @@ told_run meaning before now words n most h text gen nothing says = record {
   words_refused = λ e. absurd (omega (arith, e));
   scenario_refused = λ e. absurd (omega (arith, e));
   history_full = λ e. absurd (omega (arith, e));
-  judged = neither 0 8 9 (λ e. omega (arith, e)) (λ e. omega (arith, e));
+  illegal = λ e. absurd (omega (arith, e));
+  no_trace = λ e. absurd (omega (arith, e));
   checked = λ check. absurd (gen_no_check (record { n = n; spelled = gen }) check);
 }
 
@@ -158,7 +161,8 @@ no_scenario meaning before now words bytes most fault h text run spelled nothing
   words_refused = λ e. absurd (omega (arith, e));
   scenario_refused = λ e. inl (record { run = run; fault = fault; spelled = spelled; empty = nothing.0; untouched = nothing.1; says = says });
   history_full = λ e. absurd (omega (arith, e));
-  judged = neither 2 8 9 (λ e. omega (arith, e)) (λ e. omega (arith, e));
+  illegal = λ e. absurd (omega (arith, e));
+  no_trace = λ e. absurd (omega (arith, e));
   checked = λ check. absurd (run_no_check run check);
 }
 

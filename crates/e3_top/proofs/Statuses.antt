@@ -16,7 +16,7 @@ use Rattle.e3_top.specs.Commands.{IsCommand, Spell}
 use Rattle.e3_top.specs.declared.commands.Command.TheVariants.{Run, Gen, Drill, Check}
 
 -- the status is neither of these
-pub neither : {P : Type 0} (s a b : ℕ) → s ≢ a → s ≢ b → (s ≡ a) ⊎ (s ≡ b) → P
+neither : {P : Type 0} (s a b : ℕ) → s ≢ a → s ≢ b → (s ≡ a) ⊎ (s ≡ b) → P
 neither s a b one other (inl e) = absurd (one e)
 neither s a b one other (inr e) = absurd (other e)
 

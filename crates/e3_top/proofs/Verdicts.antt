@@ -27,11 +27,12 @@ pub checked_due : {D : Type 0} (meaning : Meaning D) (disks : List D) (words : L
     IsVerdict bytes status h text → IsOutcome meaning disks disks words bytes most status h text
 checked_due {D} meaning disks words bytes most status h text check verdict = record {
   known = has_text status verdict.cause.known;
-  done = λ e. inr (inr (inr (checked_as e)));
+  done = λ e. inr (inr (inr (checked_as 0 e)));
   words_refused = λ e. absurd (other_than status 1 (λ f. omega (arith, f)) (λ f. omega (arith, f)) (λ f. omega (arith, f)) (λ f. omega (arith, f)) verdict.cause.known e);
   scenario_refused = λ e. inr checked;
   history_full = λ e. absurd (other_than status 6 (λ f. omega (arith, f)) (λ f. omega (arith, f)) (λ f. omega (arith, f)) (λ f. omega (arith, f)) verdict.cause.known e);
-  judged = λ e. is_check;
+  illegal = checked_as 8;
+  no_trace = checked_as 9;
   checked = λ c. checked;
 }
   where
@@ -41,8 +42,8 @@ checked_due {D} meaning disks words bytes most status h text check verdict = rec
     checked : IsChecked disks disks words bytes status h text
     checked = record { check = is_check; untouched = refl; verdict = verdict }
 
-    checked_as : status ≡ 0 → IsChecked disks disks words bytes 0 h text
-    checked_as e = subst (λ (n : ℕ). IsChecked disks disks words bytes n h text) e checked
+    checked_as : (n : ℕ) → status ≡ n → IsChecked disks disks words bytes n h text
+    checked_as n e = subst (λ (s : ℕ). IsChecked disks disks words bytes s h text) e checked
 
 -- with 0, 2 and 8 the bytes are not too many, so nothing of the source is left
 pub drained_verdict : {D : Type 0} {meaning : Meaning D} {before now : List D} {P : Type 0} {words : List (String Global)} {had left : Option (List ℕ)} {most due : ℕ} {history : List Entry} {text : List ℕ} (status : ℕ) →

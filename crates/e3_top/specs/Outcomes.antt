@@ -157,8 +157,8 @@ IsTextOf sc most history told status text =
 abbrev pub HasText : ℕ → Type 0
 HasText status = (status ≤ 2) ⊎ (status ≡ 6) ⊎ (status ≡ 8) ⊎ (status ≡ 9)
 
--- The text is due, with status 0, 1, 2, 6, 8 or 9. For the words `check` it is that of the verdict on the bytes, and so is the
--- status; 8 and 9 come for these words alone.
+-- The text is due, with status 0, 1, 2, 6, 8 or 9, and each says what it is that of. For the words `check` it is that of the
+-- verdict on the bytes, and so is the status; 8, of an illegal history, and 9, of no trace, come for these words alone.
 pub record IsOutcome {D : Type 0} (meaning : Meaning D) (disks_before disks_now : List D)
     (words : List (String Global)) (bytes : List ℕ) (most status : ℕ) (history : List Entry) (text : List ℕ) : Type 0 where
   pub known : HasText status
@@ -166,5 +166,6 @@ pub record IsOutcome {D : Type 0} (meaning : Meaning D) (disks_before disks_now 
   pub words_refused : status ≡ 1 → IsRefusedWords disks_before disks_now words bytes history text
   pub scenario_refused : status ≡ 2 → IsNoScenario disks_before disks_now words bytes history text ⊎ IsChecked disks_before disks_now words bytes status history text
   pub history_full : status ≡ 6 → IsFullHistory meaning disks_before disks_now words bytes most history text
-  pub judged : (status ≡ 8) ⊎ (status ≡ 9) → IsCheck words
+  pub illegal : status ≡ 8 → IsChecked disks_before disks_now words bytes 8 history text
+  pub no_trace : status ≡ 9 → IsChecked disks_before disks_now words bytes 9 history text
   pub checked : IsCheck words → IsChecked disks_before disks_now words bytes status history text

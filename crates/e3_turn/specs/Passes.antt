@@ -31,12 +31,12 @@ module _ {X M : Type 0} where
 
   -- a pass of this lock that does not have the turn
   pub record IsIdle (lock : TableId) (p : PassOf X M) : Type 0 where
-    pub own : p.table_id ≡ lock
+    pub of_lock : p.table_id ≡ lock
     pub rests : Rests p.me
 
   -- a pass of this lock that has the turn
   pub record HasTurn (lock : TableId) (p : PassOf X M) : Type 0 where
-    pub own : p.table_id ≡ lock
+    pub of_lock : p.table_id ≡ lock
     pub served : IsServed p.me
 
   -- the pass still has its owners

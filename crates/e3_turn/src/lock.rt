@@ -124,7 +124,7 @@ impl<V: Chronicle + Drop> TurnLock<V> {
 
     fn draw(&self, pass: &mut Pass<V>) -> u64
         requires { IsIdle self.now pass.old }
-        ensures own { pass.new.table_id ≡ self.now }
+        ensures of_lock { pass.new.table_id ≡ self.now }
         ensures waits { Waits pass.new.me × (result ≡ pass.new.me.0.ticket % 2 ^ 64) }
         ensures same { SameOwners pass.old pass.new }
         ensures seen { seen_by pass.new ≡ seen_by pass.old }
@@ -134,9 +134,9 @@ impl<V: Chronicle + Drop> TurnLock<V> {
 
     // None where the pass has the turn, and else the ticket that is served.
     fn look(&self, pass: &mut Pass<V>, ticket: u64) -> Option<u64>
-        requires own { pass.old.table_id ≡ self.now }
+        requires of_lock { pass.old.table_id ≡ self.now }
         requires waits { Waits pass.old.me × (ticket ≡ pass.old.me.0.ticket % 2 ^ 64) }
-        ensures own { pass.new.table_id ≡ self.now }
+        ensures of_lock { pass.new.table_id ≡ self.now }
         ensures told { MatchOption result (Took V.marks V.belongs pass.old.me pass.new.me) (λ _. pass.new.me ≡ pass.old.me) }
     {
         let found = self.table.shared.load::<Looks<V>>(pass, SERVED);
@@ -145,9 +145,9 @@ impl<V: Chronicle + Drop> TurnLock<V> {
 
     // Looks some times, and lets other threads go on in between.
     fn look_on(&self, pass: &mut Pass<V>, ticket: u64) -> Option<u64>
-        requires own { pass.old.table_id ≡ self.now }
+        requires of_lock { pass.old.table_id ≡ self.now }
         requires waits { Waits pass.old.me × (ticket ≡ pass.old.me.0.ticket % 2 ^ 64) }
-        ensures own { pass.new.table_id ≡ self.now }
+        ensures of_lock { pass.new.table_id ≡ self.now }
         ensures told { MatchOption result (Took V.marks V.belongs pass.old.me pass.new.me) (λ _. pass.new.me ≡ pass.old.me) }
     {
         for _ in 0..LOOKS {
@@ -161,9 +161,9 @@ impl<V: Chronicle + Drop> TurnLock<V> {
 
     // Waits until the pass has the turn.
     fn wait<R: Wait>(&self, rt: &R, pass: &mut Pass<V>, ticket: u64)
-        requires own { pass.old.table_id ≡ self.now }
+        requires of_lock { pass.old.table_id ≡ self.now }
         requires waits { Waits pass.old.me × (ticket ≡ pass.old.me.0.ticket % 2 ^ 64) }
-        ensures own { pass.new.table_id ≡ self.now }
+        ensures of_lock { pass.new.table_id ≡ self.now }
         ensures turn { Took V.marks V.belongs pass.old.me pass.new.me }
     {
         for _ in rt.forever() {

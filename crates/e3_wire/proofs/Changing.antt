@@ -23,14 +23,14 @@ use Rattle.e3_wire.proofs.Sums.{one_changes}
 pub record Changes (o : ℕ) (w : Note) (marks more : List Mark) : Type 0 where
   pub enters : entries_of more ≡ []
   pub few : AreFew more
-  pub own : note_of o (marks ++ more) ≡ w
+  pub noted : note_of o (marks ++ more) ≡ w
   pub others : (u : ℕ) → (u == o) ≡ false → note_of u (marks ++ more) ≡ note_of u marks
 
 moves : (F : Note → ℕ) (o last : ℕ) (w : Note) (marks more : List Mark) → o ≤ last → Changes o w marks more →
     total (λ u. F (note_of u (marks ++ more))) last + F (note_of o marks) ≡ total (λ u. F (note_of u marks)) last + F w
 moves F o last w marks more low is =
     one_changes (λ u. F (note_of u marks)) (λ u. F (note_of u (marks ++ more))) o last low (λ u apart. ap F (is.others u apart))
-    ∙ ap (λ (v : Note). total (λ u. F (note_of u marks)) last + F v) is.own
+    ∙ ap (λ (v : Note). total (λ u. F (note_of u marks)) last + F v) is.noted
 
 same_entries : (o : ℕ) (w : Note) (marks more : List Mark) → Changes o w marks more → entries_of (marks ++ more) ≡ entries_of marks
 same_entries o w marks more is =
@@ -72,7 +72,7 @@ has_noted o w (mark.Place p n ∷ rest) more played low is few = absurd (let som
 has_noted o w (mark.Freed p ∷ rest) more played low is few = absurd (let some = played.given.some in omega (arith, some))
 has_noted o w (mark.Start sc most ∷ rest) more played low is few = (
   record {
-    own = is.own;
+    noted = is.noted;
     others = λ u apart. is.others u (ne_eqb u o apart);
     entries = same_entries o w (mark.Start sc most ∷ rest) more is;
     scenario = refl;
@@ -96,7 +96,7 @@ kept_on sc most es ms new net notes places room spare hr sr nr o w more places2 
     net = subst (λ h. NetStands sc h net) (sym (same_entries o w M more is)) was.stands.net;
   }));
   whole = was.whole ∙ sym count;
-  notes_are = (let P : List Mark → Type 0 = λ l. AreNotes last l (set notes o w) in subst P (sym marks_are) (sets last o M (M ++ more) notes w low was.notes_are is.own is.others));
+  notes_are = (let P : List Mark → Type 0 = λ l. AreNotes last l (set notes o w) in subst P (sym marks_are) (sets last o M (M ++ more) notes w low was.notes_are is.noted is.others));
   places_are = (let P : List Mark → Type 0 = λ l. places2 ≡ promised last l in
       subst P (sym marks_are) (let moved = places_moved in let f = was.places_are in omega (arith, moved, f, places_move)));
   room_is = (let P : List Mark → Type 0 = λ l. room2 ≡ rooms last l in

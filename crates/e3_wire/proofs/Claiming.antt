@@ -169,7 +169,7 @@ place_changes : (o outs : ℕ) (marks : List Mark) → outs < 2 ^ 32 → Changes
 place_changes o outs marks few = record {
   enters = refl;
   few = (few, tt);
-  own = note_push o marks (mark.Place o outs) ∙ (rw (itself o) (let one : suc w.places ≡ w.places + 1 = omega arith in ap (λ (k : ℕ). let v : Note = record { places = k; room = w.room + outs } in v) one));
+  noted = note_push o marks (mark.Place o outs) ∙ (rw (itself o) (let one : suc w.places ≡ w.places + 1 = omega arith in ap (λ (k : ℕ). let v : Note = record { places = k; room = w.room + outs } in v) one));
   others = λ u apart. note_push u marks (mark.Place o outs) ∙ (rw (flip u o apart) refl);
 }
   where
@@ -216,7 +216,7 @@ places_change : (o n : ℕ) (marks : List Mark) → Changes o (adds n 0 (note_of
 places_change o n marks = record {
   enters = places_enter o n;
   few = places_few o n;
-  own = fold-append (note_by o) nothing marks (places_for o n) ∙ places_own o n (note_of o marks);
+  noted = fold-append (note_by o) nothing marks (places_for o n) ∙ places_own o n (note_of o marks);
   others = λ u apart. fold-append (note_by u) nothing marks (places_for o n) ∙ places_other u o n (note_of u marks) (flip u o apart);
 }
 

@@ -20,7 +20,7 @@ freed_changes : (o : ℕ) (marks : List Mark) → Changes o nothing marks (mark.
 freed_changes o marks = record {
   enters = refl;
   few = (tt, tt);
-  own = note_push o marks (mark.Freed o) ∙ (rw (itself o) refl);
+  noted = note_push o marks (mark.Freed o) ∙ (rw (itself o) refl);
   others = λ u apart. note_push u marks (mark.Freed o) ∙ (rw (flip u o apart) refl);
 }
 

@@ -59,7 +59,7 @@ EntryUses = (e : Entry) (marks : List Mark) → note_of e.owner (marks ++ mark.E
 
 -- The second marks differ from the first in what is promised to this owner alone, and stand as those did.
 pub record HasNoted (o : ℕ) (note : Note) (before now : List Mark) : Type 0 where
-  pub own : note_of o now ≡ note
+  pub noted : note_of o now ≡ note
   pub others : (u : ℕ) → u ≢ o → note_of u now ≡ note_of u before
   pub entries : entries_of now ≡ entries_of before
   pub scenario : scenario_of now ≡ scenario_of before

@@ -11,3 +11,4 @@ pub mod Lines
 pub mod Rises
 pub mod AllSites
 pub mod LowSites
+pub mod Ascents

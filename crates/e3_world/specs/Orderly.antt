@@ -59,7 +59,7 @@ is_free t before o = by (against (record { txn = t; mode = mode_of o.op }) (vote
 pub record IsBirth (site : ℕ) (before : List Record) (format number : ℕ) (weights : List ℕ) (rows : List Row) : Type 0 where
   pub first : before ≡ []
   pub one : format ≡ 1
-  pub own : number ≡ site
+  pub of_site : number ≡ site
   pub known : is_among site weights (site ∷ []) ≡ true
   pub few : length weights ≤ 16
   pub weighed : list_all (λ w. nat_le 1 w && nat_le w 1000) weights ≡ true

@@ -102,7 +102,7 @@ module _ {D : Type 0} (meaning : Meaning D) where
           restless = (let P : Scenario → Type 0 = λ k. is_calm (present_items k (entries_of (between ++ places_for new.site n))) ≡ false in
               let Q : List Entry → Type 0 = λ h. is_calm (present_items (scenario_of between) h) ≡ false in
               subst P (sym noted.scenario) (subst Q (sym noted.entries) worked.knows.restless));
-          promised = noted.own ∙ ap (λ (w : Note). let x : Note = record { places = w.places + n; room = w.room } in x) worked.knows.promised ∙ ap places_alone plain;
+          promised = noted.noted ∙ ap (λ (w : Note). let x : Note = record { places = w.places + n; room = w.room } in x) worked.knows.promised ∙ ap places_alone plain;
           stands = (let P : Scenario → Type 0 = λ k. NodeStands meaning k (entries_of (between ++ places_for new.site n)) new in
               let Q : List Entry → Type 0 = λ h. NodeStands meaning (scenario_of between) h new in
               subst P (sym noted.scenario) (subst Q (sym noted.entries) worked.knows.stands));

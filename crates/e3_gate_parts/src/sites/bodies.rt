@@ -88,7 +88,7 @@ fn planned(
     ghost now: { Incarnation }
     requires { Stands now site.now }
     ensures made { IfOk result (λ plan. plan.step ≡ planned_step now site.now input.now) }
-    ensures own { IfOk result (λ plan. IsPlanOf plan site.now) }
+    ensures of_site { IfOk result (λ plan. IsPlanOf plan site.now) }
 {
     site.plan(input)
 }
@@ -123,7 +123,7 @@ fn done(
 ) -> Result<(), NoMemory>
     requires stand { Stands (record { rose = _rose.now; since = since.old }) site.old }
     requires made { plan.step ≡ planned_step (record { rose = _rose.now; since = since.old }) site.old _input.now }
-    requires own { IsPlanOf plan site.old }
+    requires of_site { IsPlanOf plan site.old }
     ensures { OnOk result (Stands (record { rose = _rose.now; since = since.new }) site.new) }
 {
     site.ready(&plan)?;

@@ -55,7 +55,7 @@ pub(crate) fn plan_at(
     requires stands { StandsFor _prefix.now.scenario.now _prefix.now.entries.now _site up.now }
     requires now { now ≡ incarnation_of (moves_of _prefix.now.scenario.now _prefix.now.entries.now _site) }
     ensures made { IfOk result (λ plan. plan.step ≡ step_kept input.now (made_by _prefix.now.scenario.now _prefix.now.entries.now _site input.now)) }
-    ensures own { IfOk result (λ plan. IsPlanOf plan up.now) }
+    ensures of_site { IfOk result (λ plan. IsPlanOf plan up.now) }
 {
     up.plan(input)
 }

@@ -297,7 +297,7 @@ born_follows site (log.Birth format number weights was ∷ rest) orderly rows up
     ap (λ y. log.Birth format number weights rows ∷ y) (sym (no_births site rows (log.Birth format number weights was ∷ []) rest some orderly.1)) in
     let m = orderly.0 in
     subst (λ (x : List Record). OrderlyAfter site [] x) alone
-    (record { first = refl; one = m.one; own = m.own; known = m.known; few = m.few; weighed = m.weighed; ascending = up }, tt)
+    (record { first = refl; one = m.one; of_site = m.of_site; known = m.known; few = m.few; weighed = m.weighed; ascending = up }, tt)
 born_follows site (log.Inc n ∷ rest) orderly rows up = absurd (orderly.0.born refl)
 born_follows site (log.Vote t ops ∷ rest) orderly rows up = absurd (let h : false ≡ true = orderly.0.known in cc)
 born_follows site (log.Join t n ∷ rest) orderly rows up = absurd (let h : false ≡ true = orderly.0.known in cc)

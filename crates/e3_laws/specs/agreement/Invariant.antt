@@ -27,7 +27,7 @@ pub record Support (g : Party) (s : Situation) (n : ℕ) (d : Dir) : Type 0 wher
   pub leader : ℕ
   pub group : List ℕ
   pub enough : g.quorum group ≡ true
-  pub own : IsIn (Attempt n d) (s.log leader)
+  pub led : IsIn (Attempt n d) (s.log leader)
   pub joined : (y : ℕ) → IsIn y group → IsIn (Join n leader) (s.log y)
   pub top : ℕ
   pub top_below : top < n

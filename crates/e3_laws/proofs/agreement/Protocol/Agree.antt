@@ -13,7 +13,7 @@ same_support : (g : Party) (s : Situation) → Invariant g s → (n : ℕ) (d e 
 same_support g s i n d e a b =
     let m = i.shared a.group b.group a.enough b.enough in
     let same : a.leader ≡ b.leader = same_leader n a.leader b.leader (s.log m.0) (i.orderly m.0) (a.joined m.0 m.1) (b.joined m.0 m.2) in
-    same_direction n d e (s.log b.leader) (i.orderly b.leader) (subst (λ x. IsIn (Attempt n d) (s.log x)) same a.own) b.own
+    same_direction n d e (s.log b.leader) (i.orderly b.leader) (subst (λ x. IsIn (Attempt n d) (s.log x)) same a.led) b.led
 
 -- one direction a number
 pub one_direction : (g : Party) (s : Situation) → Invariant g s → (x y n : ℕ) (d e : Dir) → IsIn (Attempt n d) (s.log x) → IsIn (Attempt n e) (s.log y) → d ≡ e

@@ -12,7 +12,8 @@ use Rattle.e3_world.proofs.Turns.{self}
 use Rattle.e3_laws.proofs.rounds.Deliveries.Forced.{some_line}
 use Rattle.e3_laws.proofs.rounds.Phases.Members.{IsShaped, due_shaped}
 use Rattle.e3_laws.proofs.rounds.Deliveries.Steps.{group_is_set}
-use Rattle.e3_laws.proofs.rounds.Phases.Turns.{ascends_filter, others_are, split, turns_are}
+use Rattle.e3_world.proofs.Ascents.{ascends_filter, split}
+use Rattle.e3_laws.proofs.rounds.Phases.Turns.{others_are, turns_are}
 use Rattle.e3_laws.proofs.rounds.Phases.Walked.{Each, Turn}
 
 pub round_turns : (sc : Scenario) (start : List Entry) (group : List ℕ) (items : List Item) (r : RecoveryRound) → IsGiven sc → present_items sc start ≡ item.Recover group ∷ items →

@@ -1,25 +1,13 @@
 -- The members of a round ascend, so that the others take their turns.
-use Rattle.std.proofs.Common.{◌≡◌, ◌==◌, ◌||◌, ◌&&◌, ◌<◌, ◌≤◌, ℕ, suc, Bool, true, false, List, [], ◌∷◌, ◌++◌, append_assoc, length, length-append, ◌∙◌, ap, sym, refl, filter, arith, eqb-true, nat_lt, nat_le}
-use Rattle.std.proofs.lemmas.Bool.{and_parts, ne_eqb}
-use Rattle.std.proofs.lemmas.Grind.{common_steps}
+use Rattle.std.proofs.Common.{◌≡◌, ◌==◌, ◌||◌, ◌<◌, ◌≤◌, ℕ, suc, Bool, true, false, List, [], ◌∷◌, ◌++◌, append_assoc, length, length-append, ◌∙◌, ap, sym, refl, arith, eqb-true, nat_lt, nat_le}
+use Rattle.std.proofs.lemmas.Bool.{ne_eqb}
 use Rattle.std.proofs.lemmas.List.Folds.{list_any-append}
 use Rattle.e3_types.specs.Sets.{ascends, has_site, others}
 use Rattle.e3_world.specs.Items.{RecoveryRound}
+use Rattle.e3_world.proofs.Ascents.{lt_from, split}
 use Rattle.e3_world.proofs.Turns.{self}
 use Rattle.e3_laws.proofs.rounds.Phases.Walked.{Each, Turn}
 use Rattle.e3_laws.proofs.steps.Tests.{or_true}
-
-lt_from : (a b : ℕ) → nat_lt a b ≡ true → a < b
-lt_from a b is = grind (arith, common_steps, is)
-
-lt_is : (a b : ℕ) → a < b → nat_lt a b ≡ true
-lt_is a b is = grind (arith, common_steps, is)
-
-pub split : (low x : ℕ) (xs : List ℕ) → ascends low (x ∷ xs) ≡ true → (nat_lt low x ≡ true) × (nat_le x 64 ≡ true) × (ascends x xs ≡ true)
-split low x xs is =
-    let one = and_parts (nat_lt low x && nat_le x 64) (ascends x xs) is in
-    let two = and_parts (nat_lt low x) (nat_le x 64) one.0 in
-    (two.0, two.1, one.1)
 
 -- the sites of a list that ascends are above its bound
 above : (low : ℕ) (xs : List ℕ) → ascends low xs ≡ true → (x : ℕ) → has_site xs x ≡ true → low < x
@@ -83,25 +71,6 @@ turns_are r low done (m ∷ todo) members receivers under is =
         by true same = let e : m ≡ x = eqb-true m x same in omega (arith, e)
         by false other =
             let less : x ≤ low = under x (sym (list_any-append (λ y. y == x) (r.elector ∷ done) (m ∷ []) ∙ rw other (or_false (has_site (r.elector ∷ done) x))) ∙ has) in omega (arith, less, high)
-
--- what is filtered ascends too
-ascends_lower : (low n : ℕ) (xs : List ℕ) → low ≤ n → ascends n xs ≡ true → ascends low xs ≡ true
-ascends_lower low n [] less is = refl
-ascends_lower low n (x ∷ xs) less is =
-    let one = split n x xs is in
-    let high : n < x = lt_from n x one.0 in
-    rw (lt_is low x (omega (arith, less, high)), one.1) one.2
-
-pub ascends_filter : (p : ℕ → Bool) (low : ℕ) (xs : List ℕ) → ascends low xs ≡ true → ascends low (filter p xs) ≡ true
-ascends_filter p low [] is = refl
-ascends_filter p low (x ∷ xs) is = by (ascends_filter p x xs one.2) (p x) refl
-  where
-    one : (nat_lt low x ≡ true) × (nat_le x 64 ≡ true) × (ascends x xs ≡ true)
-    one = split low x xs is
-
-    by : ascends x (filter p xs) ≡ true → (b : Bool) → p x ≡ b → ascends low (filter p (x ∷ xs)) ≡ true
-    by rest true here = rw (here, one.0, one.1) rest
-    by rest false here = let high : low < x = lt_from low x one.0 in rw here (ascends_lower low x (filter p xs) (omega (arith, high)) rest)
 
 -- and the receivers are the others
 pub others_are : (s low : ℕ) (xs : List ℕ) → s ≤ low → ascends low xs ≡ true → others s xs ≡ xs

@@ -41,7 +41,7 @@ birth_follows : (sc : Scenario) (site : ℕ) → IsGiven sc → IsSite sc site �
 birth_follows sc site given here = record {
   first = refl;
   one = refl;
-  own = refl;
+  of_site = refl;
   known = among_self site sc.weights here.0 here.1;
   few = given.few;
   weighed = given.weighed;

@@ -1,8 +1,8 @@
 use Rattle.e3_laws.proofs.steps.Histories.{step_is_own, numbers_are_all, taken_number}
 use Rattle.e3_laws.proofs.steps.steps_are_local.Goals as goal
 
-pub returns-clause-own : goal.returns-clause-own
-returns-clause-own c = step_is_own
+pub returns-clause-entries : goal.returns-clause-entries
+returns-clause-entries c = step_is_own
 
 pub returns-clause-numbers : goal.returns-clause-numbers
 returns-clause-numbers c = numbers_are_all

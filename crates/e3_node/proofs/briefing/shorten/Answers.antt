@@ -6,7 +6,7 @@ use Rattle.e3_node.proofs.briefing.shorten.Goals as goal
 
 pub returns-clause-short : goal.returns-clause-short
 returns-clause-short g c = λ l is.
-    c.short_of.ensures.short c.args.site.now.site l (c.as_slice.ensures ∙ c.in_ok-records.ensures.now is.now is.stands is.order ∙ is.same) is.some is.own
+    c.short_of.ensures.short c.args.site.now.site l (c.as_slice.ensures ∙ c.in_ok-records.ensures.now is.now is.stands is.order ∙ is.same) is.some is.of_site
 
 pub returns-clause-due : goal.returns-clause-due
 returns-clause-due g c = λ l is sound some.

@@ -27,7 +27,7 @@ returns-clause-short g c = λ l is.
     let long : length (take rise.read rise.rose) ≡ rise.read = length-take-le rise.read rise.rose few in
     let told : c.in_ok-records.records ≡ brief l =
     c.in_ok-records.ensures.brief l (subst (λ (x : List Record). IsReadBrief site (take rise.read x) l) (sym c.as_slice.ensures) is) in
-    c.in_ok-short_of.ensures.short site l (c.as_slice-2.ensures ∙ told) (read_some site (take rise.read rise.rose) l is (omega (arith, long))) is.own
+    c.in_ok-short_of.ensures.short site l (c.as_slice-2.ensures ∙ told) (read_some site (take rise.read rise.rose) l is (omega (arith, long))) is.of_site
 
 pub returns-clause-due : goal.returns-clause-due
 returns-clause-due g c = λ l is sound.

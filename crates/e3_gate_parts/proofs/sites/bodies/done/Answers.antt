@@ -3,9 +3,9 @@ use Rattle.e3_gate_parts.proofs.Keeping.{kept}
 use Rattle.e3_site.specs.SiteView.{SiteView, planned_step}
 use Rattle.e3_gate_parts.proofs.sites.bodies.done.Goals as goal
 
-pub apply-requires-clause-own : goal.apply-requires-clause-own
-apply-requires-clause-own c =
-    c.ready.ensures.own (record { rose = c.args._rose.now; since = c.args.since.now }) c.requires.stand c.requires.own
+pub apply-requires-clause-of_site : goal.apply-requires-clause-of_site
+apply-requires-clause-of_site c =
+    c.ready.ensures.of_site (record { rose = c.args._rose.now; since = c.args.since.now }) c.requires.stand c.requires.of_site
 
 pub returns : goal.returns
 returns c =

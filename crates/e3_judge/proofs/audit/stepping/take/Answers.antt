@@ -4,9 +4,9 @@ use Rattle.e3_world.specs.Moves.{moves_of}
 use Rattle.e3_judge.proofs.audit.Entered.{as_planned, took}
 use Rattle.e3_judge.proofs.audit.stepping.take.Goals as goal
 
-pub apply-step-requires-clause-own : goal.apply-step-requires-clause-own
-apply-step-requires-clause-own c =
-    c.ready.ensures.own (incarnation_of (moves_of c.args.prefix.now.scenario.now c.args.prefix.now.entries.now c.args.step.now.site)) c.requires.stands.stands c.in_ok-plan.ensures.own
+pub apply-step-requires-clause-of_site : goal.apply-step-requires-clause-of_site
+apply-step-requires-clause-of_site c =
+    c.ready.ensures.of_site (incarnation_of (moves_of c.args.prefix.now.scenario.now c.args.prefix.now.entries.now c.args.step.now.site)) c.requires.stands.stands c.in_ok-plan.ensures.of_site
 
 pub returns-clause-made : goal.returns-clause-made
 returns-clause-made c = λ yes.

@@ -25,7 +25,7 @@ returns c =
     subst (λ (l : List Pair). (n : List ℕ) → HasKey (key_of t ++ n) l → HasKey (key_of t ++ n) mine) c.deref-2.ensures.value c.pairs_of.ensures.all in
     let e : flat_map (λ (p : Pair). f p.name (place_in p.name c.deref.result.now)) mine ≡ grants_after t c.args.self.now =
     ap (λ (l : List Standing). flat_map (λ (p : Pair). f p.name (place_in p.name l)) mine) c.deref.ensures.value
-    ∙ gathered f t (no_grants t) items pairs mine c.self.invariant.2 c.self.invariant.0.ascending c.pairs_of.ensures.own c.pairs_of.ensures.ascending keeps
+    ∙ gathered f t (no_grants t) items pairs mine c.self.invariant.2 c.self.invariant.0.ascending c.pairs_of.ensures.of_txn c.pairs_of.ensures.ascending keeps
     ∙ sym (by_places f (λ n held. refl) items 0 c.self.invariant.0.ascending)
     ∙ ap (λ (v : LockLists). grants_after t v) c.self.view_is in
     subst (λ (l : List Granted). IfOk c.granted_on.result (λ out. out ≡ l)) e c.granted_on.ensures

@@ -22,7 +22,7 @@ invariant_of-self-2 c =
       c.request_on.ensures.table,
       c.request_on.ensures.spare,
       index_requested items new c.reserve.new.self.items c.add_put.new.pairs.items c.args.name.now w c.in_ok-grant.grant c.found_by_bits.ensures c.in_ok-grant.ensures.grant
-          c.in_ok-grant.ensures.ok c.add_put.ensures.ascending c.add_put.ensures.more c.add_put.ensures.own index,
+          c.in_ok-grant.ensures.ok c.add_put.ensures.ascending c.add_put.ensures.more c.add_put.ensures.there index,
     )
 
 pub returns-clause-grant : goal.returns-clause-grant

@@ -29,7 +29,7 @@ returns-clause-ok c =
     subst (λ (l : List Pair). (n : List ℕ) → HasKey (key_of t ++ n) l → HasKey (key_of t ++ n) mine) c.deref-2.ensures.value c.pairs_of.ensures.all in
     let names : flat_map (λ (p : Pair). awaited_at t (place_in p.name c.deref.result.now)) mine ≡ flat_map (λ (s : Standing). awaited_at t s.place) items =
     ap (λ (l : List Standing). flat_map (λ (p : Pair). awaited_at t (place_in p.name l)) mine) c.deref.ensures.value
-    ∙ gathered (λ n p. awaited_at t p) t (no_waits t) items pairs mine c.self.invariant.2 up c.pairs_of.ensures.own c.pairs_of.ensures.ascending keeps in
+    ∙ gathered (λ n p. awaited_at t p) t (no_waits t) items pairs mine c.self.invariant.2 up c.pairs_of.ensures.of_txn c.pairs_of.ensures.ascending keeps in
     let e : fold add_txn [] (flat_map (λ (p : Pair). awaited_at t (place_in p.name c.deref.result.now)) mine) ≡ waits_for t c.args.self.now =
     ap (λ (l : List Txn). fold add_txn [] l) (names ∙ sym (by_places (λ n p. awaited_at t p) (λ n held. refl) items 0 up))
     ∙ ap (λ (v : LockLists). waits_for t v) c.self.view_is in
@@ -46,7 +46,7 @@ returns-clause-younger c =
     subst (λ (l : List Pair). (n : List ℕ) → HasKey (key_of t ++ n) l → HasKey (key_of t ++ n) mine) c.deref-2.ensures.value c.pairs_of.ensures.all in
     let names : flat_map (λ (p : Pair). awaited_at t (place_in p.name c.deref.result.now)) mine ≡ flat_map (λ (s : Standing). awaited_at t s.place) items =
     ap (λ (l : List Standing). flat_map (λ (p : Pair). awaited_at t (place_in p.name l)) mine) c.deref.ensures.value
-    ∙ gathered (λ n p. awaited_at t p) t (no_waits t) items pairs mine c.self.invariant.2 up c.pairs_of.ensures.own c.pairs_of.ensures.ascending keeps in
+    ∙ gathered (λ n p. awaited_at t p) t (no_waits t) items pairs mine c.self.invariant.2 up c.pairs_of.ensures.of_txn c.pairs_of.ensures.ascending keeps in
     let e : fold add_txn [] (flat_map (λ (p : Pair). awaited_at t (place_in p.name c.deref.result.now)) mine) ≡ waits_for t (lists items 0) =
     ap (λ (l : List Txn). fold add_txn [] l) (names ∙ sym (by_places (λ n p. awaited_at t p) (λ n held. refl) items 0 up)) in
     let fair : (n : List ℕ) → is_fair (on n (all_held items)) (on n (all_queued items)) ≡ true =

@@ -75,7 +75,7 @@ told-requires g c =
     subst (λ (n : ℕ). RiseMakes g.D.Disk.meaning sc h n (disk_of node.state) state r) is.site_is
     (subst (λ (x : NodeView _). RiseMakes g.D.Disk.meaning sc h wish.site (disk_of x.state) state r) c.self.view_is
     (c.replace_with-raised.ensures.0 sc h may inside)) in
-    record { own = never_foreign_made g.D.Disk.meaning sc h node.site (disk_of node.state) state r made }
+    record { not_foreign = never_foreign_made g.D.Disk.meaning sc h node.site (disk_of node.state) state r made }
 
 pub returns-clause-stands : goal.returns-clause-stands
 returns-clause-stands g c =

@@ -11,7 +11,7 @@ pub apply-requires-clause-are : goal.apply-requires-clause-are
 apply-requires-clause-are c =
     own_parts (record { weights = c.self.inside.weights; site = c.self.inside.site; inputs = c.self.inside.inputs; tables = c.self.inside.tables })
     c.args.plan c.into_parts-step.result.0 c.into_parts-step.result.1 c.into_parts-step.ensures.step c.into_parts-step.ensures.behind
-    (subst (λ (s : SiteView). IsPlanOf c.args.plan s) (sym c.self.view_is) c.requires.own)
+    (subst (λ (s : SiteView). IsPlanOf c.args.plan s) (sym c.self.view_is) c.requires.of_site)
 
 pub apply-requires-clause-room : goal.apply-requires-clause-room
 apply-requires-clause-room c =

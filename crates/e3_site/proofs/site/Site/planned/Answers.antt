@@ -13,5 +13,5 @@ returns-clause-made g c =
     (c.in_ok-made.ensures ∙ ap (λ (ws : List ℕ). step_of ws c.self.inside.site g.now c.args.input.now) c.as_slice.ensures
     ∙ ap (λ (s : SiteView). step_of s.weights s.site g.now c.args.input.now) c.self.view_is) c.new.ensures.kept
 
-pub returns-clause-own : goal.returns-clause-own
-returns-clause-own g c = subst (λ (s : SiteView). IfOk c.new.result (λ plan. IsPlanOf plan s)) c.self.view_is c.new.ensures.own
+pub returns-clause-of_site : goal.returns-clause-of_site
+returns-clause-of_site g c = subst (λ (s : SiteView). IfOk c.new.result (λ plan. IsPlanOf plan s)) c.self.view_is c.new.ensures.of_tables

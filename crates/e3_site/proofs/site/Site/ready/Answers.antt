@@ -16,8 +16,8 @@ returns-clause-stands c =
     stands_still c.args.self.now new (ap (λ (s : SiteView). record s { tables = c.ready.new.tables }) c.self.view_is) (λ now stands.
     c.ready.ensures.same.stand c.self.inside.site (life_of now) (subst (λ (s : SiteView). Stands now s) (sym c.self.view_is) stands))
 
-pub returns-clause-own : goal.returns-clause-own
-returns-clause-own c =
+pub returns-clause-of_site : goal.returns-clause-of_site
+returns-clause-of_site c =
     let new : SiteView = record { weights = c.self.inside.weights; site = c.self.inside.site; inputs = c.self.inside.inputs; tables = c.ready.new.tables } in
     own_still c.args.self.now new c.args.plan.now c.behind.result.now c.behind.ensures
     (subst (λ (s : SiteView). ActAlike s.tables c.ready.new.tables c.behind.result.now) c.self.view_is c.ready.ensures.same)

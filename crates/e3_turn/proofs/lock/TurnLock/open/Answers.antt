@@ -13,4 +13,4 @@ new-requires g c =
     (opens _ _ c.args.owners c.args.value _ (omega (arith, c.ranges.owners.fits)) (ap g.V.Chronicle.marks (sym c.of.ensures)))
 
 pub returns-in-Ok-clause-idle : goal.returns-in-Ok-clause-idle
-returns-in-Ok-clause-idle g c = record { own = search rules; rests = rests_new g.V.Chronicle.marks g.V.Chronicle.belongs c.args.owners _ _ c.in-Ok.ensures.ok.4 }
+returns-in-Ok-clause-idle g c = record { of_lock = search rules; rests = rests_new g.V.Chronicle.marks g.V.Chronicle.belongs c.args.owners _ _ c.in-Ok.ensures.ok.4 }
