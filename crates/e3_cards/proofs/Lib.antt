@@ -6,5 +6,6 @@ pub mod Untouched
 pub mod Putting
 pub mod Answered
 pub mod Counting
+pub mod Countable
 pub mod Reading
 pub mod Logged

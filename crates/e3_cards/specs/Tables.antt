@@ -1,5 +1,5 @@
 -- Cards by their transactions, with the counts of a site; what they stand for; and which cards a step changes.
-use Rattle.std.specs.Prelude.{◌≡◌, ◌++◌, ◌∷◌, [], if◌then◌else◌, ℕ, suc, List, count_by, fold, unwrap_or, IsSome}
+use Rattle.std.specs.Prelude.{◌≡◌, ◌<◌, ◌≤◌, ◌++◌, ◌∷◌, [], if◌then◌else◌, ℕ, suc, List, count_by, fold, length, unwrap_or, IsSome}
 use Rattle.std.specs.List.{list_any, flat_map}
 use Rattle.std.specs.Map.{lookup}
 use Rattle.std.specs.BTreeMap.{is_at}
@@ -27,6 +27,7 @@ use Rattle.e3_cards.specs.declared.keys.TxnKey.{TxnKey}
 use Rattle.e3_cards.specs.declared.cards.Cards.{Cards}
 use Rattle.e3_cards.specs.declared.cards.Changes.{Changes}
 use Rattle.e3_cards.specs.Cards.{card_of, card_by, blank, moment_of}
+use Rattle.e3_cards.specs.Readings.{done_of}
 
 -- a transaction as a key
 abbrev pub txn_key : Txn → TxnKey
@@ -51,6 +52,18 @@ pub record CardsStand (site : ℕ) (cards : Cards) (life : Life) : Type 0 where
   pub begins_are : cards.begins ≡ count_by is_begin life.steps
   pub calls_are : cards.calls ≡ count_by is_elect life.steps
   pub cards_are : (t : Txn) → IsFoundByBits t → card_at cards.map.entries t ≡ card_of site t life
+
+-- 32 bits number one operation more of a card's transaction, and count those that are done here and those that count elsewhere
+pub record IsCountable (card : Card) : Type 0 where
+  pub issued : length card.issued < 4294967295
+  pub done : length (done_of card) ≤ 4294967295
+  pub counted : length card.counted ≤ 4294967295
+
+-- so of each card, and 32 bits count one Begin more, and one Elect
+pub record AreCountable (all : Cards) : Type 0 where
+  pub begins : all.begins < 4294967295
+  pub calls : all.calls < 4294967295
+  pub cards : (t : Txn) → IsFoundByBits t → IsCountable (card_at all.map.entries t)
 
 -- the transaction of an input
 abbrev pub input_txns : Input → List Txn

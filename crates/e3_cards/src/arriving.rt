@@ -1,5 +1,5 @@
 // The operations of a transaction that came to the site, and their answers, behind one more step.
-ghost use Rattle.std.specs.Prelude.{◌≡◌, ◌++◌, IfOk};
+ghost use Rattle.std.specs.Prelude.{◌≡◌, ◌<◌, ◌++◌, IfOk};
 ghost use Rattle.e3_cards.specs.Arriving.{came_by, mine, taken_of, heard_told, heard_sent, heard_in};
 
 use crate::card::Heard;
@@ -25,11 +25,11 @@ pub(crate) fn taken_of(
     count: u64,
     input: &Input,
     events: &[Told],
-) -> Result<Option<Asked>, NoMemory>
-    ensures { IfOk result (λ o. o ≡ taken_of site t.now count input.now events.now) }
+) -> Option<Asked>
+    requires { count < 4294967295 }
+    ensures { result ≡ taken_of site t.now count input.now events.now }
 {
-    let taken = brought(site, count, input, events)?;
-    Ok(mine(t, taken))
+    mine(t, brought(site, count, input, events))
 }
 
 /// Adds the operation that is taken up, where the transaction is in q and it did not come before.

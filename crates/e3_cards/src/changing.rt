@@ -1,5 +1,5 @@
 // What a step makes of the cards.
-ghost use Rattle.std.specs.Prelude.{◌≡◌, if◌then◌else◌, ℕ, IfOk, OnOk, map, fold, suc};
+ghost use Rattle.std.specs.Prelude.{◌≡◌, ◌<◌, if◌then◌else◌, ℕ, IfOk, OnOk, map, fold, suc};
 ghost use Rattle.e3_types.specs.declared.transactions.Txn.{Txn as SomeTxn};
 ghost use Rattle.e3_world.specs.declared.lives.Life.{Life};
 ghost use Rattle.e3_world.specs.Elections.{is_elect};
@@ -8,7 +8,7 @@ ghost use Rattle.e3_world.specs.Steps.{is_begin};
 ghost use Rattle.e3_cards.specs.declared.keys.TxnKey.{TxnKey as KeptKey};
 ghost use Rattle.e3_cards.specs.Cards.{moment_of};
 ghost use Rattle.e3_world.specs.Transactions.{IsFoundByBits};
-ghost use Rattle.e3_cards.specs.Tables.{card_at, call_now, txn_key, touched, change_of, put, CardsStand, AreChanges, HasCard, HasRoom, IsRoomier};
+ghost use Rattle.e3_cards.specs.Tables.{card_at, call_now, txn_key, touched, change_of, put, CardsStand, AreChanges, AreCountable, HasCard, HasRoom, IsRoomier};
 
 use crate::card::{Card, Change, blank};
 use crate::cards::{Cards, Changes};
@@ -16,21 +16,23 @@ use crate::copying::copy_at;
 use crate::keys::{TxnKey, txn_key};
 use crate::stepping::step_card;
 use crate::touched::touched;
-use e3_readings::next;
 use e3_types::{Input, List, NoMemory, Txn};
 use e3_world::{SiteStep, found_by_bits};
 use std::alloc::Global;
 use std::collections::BTreeMap;
 
 fn change_of(alloc: Global, cards: &Cards, step: &SiteStep, t: &Txn) -> Result<Change, NoMemory>
+    requires { AreCountable cards.now }
     ensures { IfOk result (λ c. c ≡ change_of cards.now.site (call_now cards.now) cards.now.map.entries step.now t.now) }
 {
+    found_by_bits(t);
     let was = copy_at(alloc, &cards.map, t)?;
     let card = step_card(alloc, cards.site, cards.inc, cards.calls, t, was, step)?;
     Ok(Change { txn: *t, card })
 }
 
 fn all_changes(alloc: Global, cards: &Cards, step: &SiteStep) -> Result<List<Change>, NoMemory>
+    requires { AreCountable cards.now }
     ensures { IfOk result (λ cs. cs ≡ map (change_of cards.now.site (call_now cards.now) cards.now.map.entries step.now) (touched step.now)) }
 {
     let txns = touched(alloc, step)?;
@@ -41,31 +43,34 @@ fn all_changes(alloc: Global, cards: &Cards, step: &SiteStep) -> Result<List<Cha
     Ok(out)
 }
 
-fn begins_behind(begins: u32, step: &SiteStep) -> Result<u32, NoMemory>
-    ensures { IfOk result (λ n. n ≡ (if is_begin (moment_of step.now) then suc begins else begins)) }
+fn begins_behind(begins: u32, step: &SiteStep) -> u32
+    requires { begins < 4294967295 }
+    ensures { result ≡ (if is_begin (moment_of step.now) then suc begins else begins) }
 {
     match step.input {
-        Input::Begin { .. } => next(begins),
-        _ => Ok(begins),
+        Input::Begin { .. } => begins + 1,
+        _ => begins,
     }
 }
 
-fn calls_behind(calls: u32, step: &SiteStep) -> Result<u32, NoMemory>
-    ensures { IfOk result (λ n. n ≡ (if is_elect (moment_of step.now) then suc calls else calls)) }
+fn calls_behind(calls: u32, step: &SiteStep) -> u32
+    requires { calls < 4294967295 }
+    ensures { result ≡ (if is_elect (moment_of step.now) then suc calls else calls) }
 {
     match step.input {
-        Input::Elect { .. } => next(calls),
-        _ => Ok(calls),
+        Input::Elect { .. } => calls + 1,
+        _ => calls,
     }
 }
 
 /// What a step makes of the cards that it changes. It reads the cards alone, and changes none.
 pub fn changes(alloc: Global, cards: &Cards, step: &SiteStep) -> Result<Changes, NoMemory>
+    requires { AreCountable cards.now }
     ensures { IfOk result (AreChanges cards.now step.now) }
 {
     Ok(Changes {
-        begins: begins_behind(cards.begins, step)?,
-        calls: calls_behind(cards.calls, step)?,
+        begins: begins_behind(cards.begins, step),
+        calls: calls_behind(cards.calls, step),
         cards: all_changes(alloc, cards, step)?,
     })
 }

@@ -1,10 +1,10 @@
 // The election of a transaction in progress, behind one more step.
-ghost use Rattle.std.specs.Prelude.{◌≡◌, IfOk, suc};
+ghost use Rattle.std.specs.Prelude.{◌≡◌, ◌<◌, IfOk, suc};
 ghost use Rattle.e3_cards.specs.Electing.{election_now, seen_report};
 
 use crate::seen::{Seen, seen_state};
 use e3_elect::Election;
-use e3_readings::{Electing, election_anew, election_behind, has_decision, has_verdict, next};
+use e3_readings::{Electing, election_anew, election_behind, has_decision, has_verdict};
 use e3_types::{Call, Input, NoMemory, SiteReport, Txn};
 use e3_world::SiteStep;
 use std::alloc::Global;
@@ -31,6 +31,7 @@ pub(crate) fn election_now(
     was: Option<Election>,
     step: &SiteStep,
 ) -> Result<Option<Election>, NoMemory>
+    requires { calls < 4294967295 }
     ensures { IfOk result (λ o. o ≡ election_now site (record { inc = inc; seq = suc calls }) t.now seen.now was step.now) }
 {
     let records = step.records.as_slice();
@@ -46,7 +47,7 @@ pub(crate) fn election_now(
         Input::Elect { txn, group } if t.is_same(txn) => {
             let call = Call {
                 inc,
-                seq: next(calls)?,
+                seq: calls + 1,
             };
             election_anew(alloc, &at, seen.elected, call, *group)
         }

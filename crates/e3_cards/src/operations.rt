@@ -1,5 +1,5 @@
 // What is read of the operations of a transaction, by its card and the step so far.
-ghost use Rattle.std.specs.Prelude.{◌≡◌, ◌++◌, ◌==◌, ◌&&◌, not, IfOk, length, fold, is_none};
+ghost use Rattle.std.specs.Prelude.{◌≡◌, ◌<◌, ◌≤◌, ◌++◌, ◌==◌, ◌&&◌, not, IfOk, length, fold, is_none};
 ghost use Rattle.std.specs.List.{list_any, flat_map};
 ghost use Rattle.e3_world.specs.Making.{own_write};
 ghost use Rattle.e3_world.specs.Operations.{issued_in, nth_op, same_asked};
@@ -14,7 +14,7 @@ use crate::card::{Card, Counted, Heard};
 use crate::copying::{copy_all, copy_came, copy_heard, copy_ops};
 use crate::issued::add_numbers;
 use crate::seen::seen_behind;
-use e3_readings::{is_among, issued_in, key_of, last_own, next, nth_op, number_behind};
+use e3_readings::{is_among, issued_in, key_of, last_own, nth_op, number_behind};
 use e3_types::{Answer, Input, List, Name, NoMemory, Op, Txn};
 use e3_world::{Asked, Expected, Made, Performed};
 use std::alloc::Global;
@@ -64,11 +64,12 @@ pub(crate) fn done_with(
     input: &Input,
     made: &Made,
 ) -> Result<List<Performed>, NoMemory>
+    requires { length card.now.issued < 4294967295 }
     ensures { IfOk result (λ out. out ≡ done_with site t.now card.now input.now made.now) }
 {
     let events = made.told.as_slice();
     let mut came = copy_came(alloc, card.came.as_slice())?;
-    let taken = taken_of(site, t, card.issued.len(), input, events)?;
+    let taken = taken_of(site, t, card.issued.len(), input, events);
     add_came(&card.seen, taken, &mut came)?;
     let mut heard = copy_heard(alloc, card.heard.as_slice())?;
     add_heard(t, events, made.outs.as_slice(), &mut heard)?;
@@ -143,23 +144,25 @@ fn has_number(n: u32, told: &[u32]) -> bool
     told.iter().any(|m| n == *m)
 }
 
-fn unanswered_of(count: u64, told: &[u32], undecided: bool) -> Result<Option<u32>, NoMemory>
-    ensures { IfOk result (λ n. n ≡ unanswered_of count told.now undecided) }
+fn unanswered_of(count: u64, told: &[u32], undecided: bool) -> Option<u32>
+    requires { count ≤ 4294967295 }
+    ensures { result ≡ unanswered_of count told.now undecided }
 {
     if count == 0 {
-        return Ok(None);
+        return None;
     }
-    let n = number_behind(count - 1)?;
+    let n = number_behind(count - 1);
     if undecided && !has_number(n, told) {
-        Ok(Some(n))
+        Some(n)
     } else {
-        Ok(None)
+        None
     }
 }
 
 /// The number of the unanswered operation behind the steps before this one, if the transaction is undecided now.
-pub(crate) fn unanswered_now(t: &Txn, card: &Card, made: &Made) -> Result<Option<u32>, NoMemory>
-    ensures { IfOk result (λ n. n ≡ unanswered_of (length card.now.issued) card.now.answered (is_none (fold (seen_by t.now) card.now.seen made.now.records).decision)) }
+pub(crate) fn unanswered_now(t: &Txn, card: &Card, made: &Made) -> Option<u32>
+    requires { length card.now.issued ≤ 4294967295 }
+    ensures { result ≡ unanswered_of (length card.now.issued) card.now.answered (is_none (fold (seen_by t.now) card.now.seen made.now.records).decision) }
 {
     let undecided = is_open(t, card, made);
     unanswered_of(card.issued.len(), card.answered.as_slice(), undecided)
@@ -190,6 +193,7 @@ pub(crate) fn awaits(
     input: &Input,
     made: &Made,
 ) -> Result<bool, NoMemory>
+    requires { length card.now.issued < 4294967295 }
     ensures { IfOk result (λ b. b ≡ (is_number n (unanswered_of (length (card.now.issued ++ issued_in t.now input.now made.now.told)) (card.now.answered ++ flat_map (number_told t.now) made.now.told) (is_none (fold (seen_by t.now) card.now.seen made.now.records).decision))
         && is_at_site f (nth_op n (card.now.issued ++ issued_in t.now input.now made.now.told)))) }
 {
@@ -198,32 +202,34 @@ pub(crate) fn awaits(
     issued_in(t, input, events, &mut ops)?;
     let mut told = copy_all(alloc, card.answered.as_slice())?;
     add_numbers(t, events, &mut told)?;
-    let last = unanswered_of(ops.len(), told.as_slice(), is_open(t, card, made))?;
+    let last = unanswered_of(ops.len(), told.as_slice(), is_open(t, card, made));
     Ok(is_number(n, last) && is_at_site(f, n, ops.as_slice()))
 }
 
-fn expect_by(site: u32, was: Expected, c: &Counted) -> Result<Expected, NoMemory>
-    ensures { IfOk result (λ e. e ≡ expect_by site was c.now) }
+fn expect_by(site: u32, was: Expected, c: &Counted) -> Expected
+    requires { was.count < 4294967295 }
+    ensures { result ≡ expect_by site was c.now }
 {
     if c.site == site {
-        Ok(Expected {
+        Expected {
             inc: c.inc,
-            count: next(was.count)?,
-        })
+            count: was.count + 1,
+        }
     } else {
-        Ok(was)
+        was
     }
 }
 
 /// What is expected of another site.
-pub(crate) fn expected_of(site: u32, card: &Card) -> Result<Expected, NoMemory>
-    ensures { IfOk result (λ e. e ≡ expected_of site card.now) }
+pub(crate) fn expected_of(site: u32, card: &Card) -> Expected
+    requires { length card.now.counted ≤ 4294967295 }
+    ensures { result ≡ expected_of site card.now }
 {
     let mut e = Expected { inc: 0, count: 0 };
     for c in card.counted.as_slice() {
-        e = expect_by(site, e, c)?;
+        e = expect_by(site, e, c);
     }
-    Ok(e)
+    e
 }
 
 /// The value of the transaction's last write of this name, with the step so far, or else the row.
@@ -237,6 +243,7 @@ pub(crate) fn own_with(
     input: &Input,
     made: &Made,
 ) -> Result<Answer, NoMemory>
+    requires { length card.now.issued < 4294967295 }
     ensures { IfOk result (λ x. x ≡ fold (own_write name.now) row (done_with site t.now card.now input.now made.now)) }
 {
     let done = done_with(alloc, site, t, card, input, made)?;

@@ -1,5 +1,5 @@
 // What the rules of a step read of a transaction, where the cards stand for the place of the step.
-ghost use Rattle.std.specs.Prelude.{◌≡◌, ◌==◌, if◌then◌else◌, IfOk, length, fold};
+ghost use Rattle.std.specs.Prelude.{◌≡◌, ◌==◌, ◌<◌, if◌then◌else◌, IfOk, length, fold};
 ghost use Rattle.std.specs.List.{list_any};
 ghost use Rattle.e3_types.specs.Same.{same_txn};
 ghost use Rattle.e3_world.specs.declared.lives.At.{At as Place};
@@ -13,7 +13,7 @@ ghost use Rattle.e3_readings.specs.Expecting.{own_expected};
 ghost use Rattle.e3_cards.specs.Cards.{blank, card_of};
 ghost use Rattle.e3_cards.specs.Readings.{expected_of, done_of};
 ghost use Rattle.e3_cards.specs.Seeing.{seen_of};
-ghost use Rattle.e3_cards.specs.Tables.{CardsStand, card_at, call_now};
+ghost use Rattle.e3_cards.specs.Tables.{AreCountable, CardsStand, IsCountable, card_at, call_now};
 
 use crate::card::{Card, blank};
 use crate::cards::{Cards, card_or};
@@ -26,7 +26,7 @@ use crate::operations::{
 use crate::seen::{Seen, unseen};
 use e3_commit::Acks;
 use e3_elect::Election;
-use e3_readings::{first_reason, have_every_yes, next, own_expected, votes_after};
+use e3_readings::{first_reason, have_every_yes, own_expected, votes_after};
 use e3_types::{Answer, Call, Input, List, Name, NoMemory, Refusal, Txn};
 use e3_world::{Asked, Expected, Made, Performed, found_by_bits};
 use std::alloc::Global;
@@ -50,13 +50,14 @@ fn round_at(cards: &Cards, t: &Txn) -> Option<Acks>
 }
 
 fn expected_from(alloc: Global, cards: &Cards, card: &Card, of: u32) -> Result<Expected, NoMemory>
+    requires { IsCountable card.now }
     ensures { IfOk result (λ e. e ≡ (if cards.now.site == of then own_expected cards.now.inc (done_of card.now) else expected_of of card.now)) }
 {
     if cards.site == of {
         let done = done_of(alloc, card)?;
-        own_expected(cards.inc, done.as_slice())
+        Ok(own_expected(cards.inc, done.as_slice()))
     } else {
-        expected_of(of, card)
+        Ok(expected_of(of, card))
     }
 }
 
@@ -76,7 +77,8 @@ impl Cards {
     // The card of a transaction, or this blank one.
     fn card_of<'a>(&'a self, t: &Txn, none: &'a Card) -> &'a Card
         requires { none.now ≡ blank }
-        ensures { (a : Place) → CardsStand a.site self.now a.life → result.now ≡ card_of a.site t.now a.life }
+        ensures card { (a : Place) → CardsStand a.site self.now a.life → result.now ≡ card_of a.site t.now a.life }
+        ensures countable { AreCountable self.now → IsCountable result.now }
     {
         found_by_bits(t);
         card_or(&self.map, t, none)
@@ -92,15 +94,17 @@ impl Cards {
 
     /// How many operations of the transaction the steps before this one issued.
     pub fn issued_count(&self, alloc: Global, t: &Txn) -> u64
-        ensures { (a : Place) → CardsStand a.site self.now a.life → result ≡ length (issued t.now a.life.steps) }
+        ensures count { (a : Place) → CardsStand a.site self.now a.life → result ≡ length (issued t.now a.life.steps) }
+        ensures few { AreCountable self.now → result < 4294967295 }
     {
         let none = blank(alloc);
         self.card_of(t, &none).issued.len()
     }
 
     /// The operation of the transaction that is unanswered behind the steps before this one, if it is undecided now.
-    pub fn unanswered(&self, alloc: Global, t: &Txn, made: &Made) -> Result<Option<u32>, NoMemory>
-        ensures { (a : Place) → CardsStand a.site self.now a.life → IfOk result (λ n. n ≡ unanswered t.now (log_now a made.now) a.life.steps) }
+    pub fn unanswered(&self, alloc: Global, t: &Txn, made: &Made) -> Option<u32>
+        requires { AreCountable self.now }
+        ensures { (a : Place) → CardsStand a.site self.now a.life → result ≡ unanswered t.now (log_now a made.now) a.life.steps }
     {
         let none = blank(alloc);
         unanswered_now(t, self.card_of(t, &none), made)
@@ -116,6 +120,7 @@ impl Cards {
         input: &Input,
         made: &Made,
     ) -> Result<bool, NoMemory>
+        requires { AreCountable self.now }
         ensures { (a : Place) → CardsStand a.site self.now a.life → a.input ≡ input.now → IfOk result (λ b. b ≡ is_awaited a f t.now n made.now) }
     {
         let none = blank(alloc);
@@ -124,6 +129,7 @@ impl Cards {
 
     /// What is expected of a site for the transaction.
     pub fn expected(&self, alloc: Global, t: &Txn, of: u32) -> Result<Expected, NoMemory>
+        requires { AreCountable self.now }
         ensures { (a : Place) → CardsStand a.site self.now a.life → IfOk result (λ e. e ≡ expected a.site a.life.inc t.now a.life.steps of) }
     {
         let none = blank(alloc);
@@ -156,6 +162,7 @@ impl Cards {
         input: &Input,
         made: &Made,
     ) -> Result<Answer, NoMemory>
+        requires { AreCountable self.now }
         ensures { (a : Place) → CardsStand a.site self.now a.life → a.input ≡ input.now → IfOk result (λ x. x ≡ fold (own_write name.now) row (done a.site t.now (steps_now a made.now))) }
     {
         let none = blank(alloc);
@@ -211,19 +218,21 @@ impl Cards {
         round_at(self, t)
     }
 
-    /// The call of an election that the step begins. NoMemory comes where the count would pass 32 bits.
-    pub fn next_call(&self) -> Result<Call, NoMemory>
-        ensures { (a : Place) → CardsStand a.site self.now a.life → IfOk result (λ call. call ≡ next_call a.life.inc a.life.steps) }
+    /// The call of an election that the step begins.
+    pub fn next_call(&self) -> Call
+        requires { AreCountable self.now }
+        ensures { (a : Place) → CardsStand a.site self.now a.life → result ≡ next_call a.life.inc a.life.steps }
     {
         call_next(self)
     }
 }
 
-fn call_next(cards: &Cards) -> Result<Call, NoMemory>
-    ensures { IfOk result (λ call. call ≡ call_now cards.now) }
+fn call_next(cards: &Cards) -> Call
+    requires { cards.now.calls < 4294967295 }
+    ensures { result ≡ call_now cards.now }
 {
-    Ok(Call {
+    Call {
         inc: cards.inc,
-        seq: next(cards.calls)?,
-    })
+        seq: cards.calls + 1,
+    }
 }

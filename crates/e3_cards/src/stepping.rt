@@ -1,5 +1,5 @@
 // What one more step makes of a card.
-ghost use Rattle.std.specs.Prelude.{◌≡◌, ◌++◌, IfOk, fold, length, suc};
+ghost use Rattle.std.specs.Prelude.{◌≡◌, ◌<◌, ◌++◌, IfOk, fold, length, suc};
 ghost use Rattle.std.specs.List.{flat_map};
 ghost use Rattle.e3_world.specs.Operations.{issued_in, reason_in};
 ghost use Rattle.e3_world.specs.Rounds.{round_by};
@@ -23,18 +23,20 @@ use std::mem;
 
 // The operation that a step takes up.
 fn and_came(site: u32, t: &Txn, step: &SiteStep, card: &mut Card) -> Result<(), NoMemory>
+    requires { length card.old.issued < 4294967295 }
     ensures { IfOk result (λ u. card.new ≡ record card.old {
       came = came_by card.old.seen card.old.came (taken_of site t.now (length card.old.issued) step.now.input step.now.told);
     }) }
 {
     let seen = card.seen;
     let issued = card.issued.len();
-    let taken = taken_of(site, t, issued, &step.input, step.told.as_slice())?;
+    let taken = taken_of(site, t, issued, &step.input, step.told.as_slice());
     add_came(&seen, taken, &mut card.came)
 }
 
 // The operation that a step takes up, and the answers that it shows.
 fn and_arrived(site: u32, t: &Txn, step: &SiteStep, card: &mut Card) -> Result<(), NoMemory>
+    requires { length card.old.issued < 4294967295 }
     ensures { IfOk result (λ u. card.new ≡ record card.old {
       came = came_by card.old.seen card.old.came (taken_of site t.now (length card.old.issued) step.now.input step.now.told);
       heard = card.old.heard ++ heard_in t.now step.now.told step.now.outs;
@@ -83,6 +85,7 @@ fn and_gathered(
     step: &SiteStep,
     card: &mut Card,
 ) -> Result<(), NoMemory>
+    requires { calls < 4294967295 }
     ensures { IfOk result (λ u. card.new ≡ record card.old {
       seen = fold (seen_by t.now) card.old.seen step.now.records;
       votes = votes_by site t.now card.old.votes step.now.input step.now.told;
@@ -117,6 +120,8 @@ pub fn step_card(
     was: Card,
     step: &SiteStep,
 ) -> Result<Card, NoMemory>
+    requires calls { calls < 4294967295 }
+    requires issued { length was.issued < 4294967295 }
     ensures { IfOk result (λ card. card ≡ card_by site (record { inc = inc; seq = suc calls }) t.now was step.now) }
 {
     let mut card = was;

@@ -134,15 +134,15 @@ other_more t f n inc site x was m on unheard = by m.input refl
     by (input.Elect u group) is = absurd (true_not_false (sym (ap (is_answer_of f inc t n) (sym is) ∙ on)))
 
 -- both
-heard_more : (own f n inc site : ℕ) (t : Txn) (x : Answer) (was : Expected) (m : Moment) → (own == site) ≡ false → brings own f inc t n m.input ≡ true
+heard_more : (coordinator f n inc site : ℕ) (t : Txn) (x : Answer) (was : Expected) (m : Moment) → (coordinator == site) ≡ false → brings coordinator f inc t n m.input ≡ true
     → list_any (tells_op t n) m.told ≡ false
     → expected_by t site was (and_told m (told.Op t n x)) ≡ expected_with site (expected_by t site was m) (answered_by f inc)
-heard_more own f n inc site t x was m other on unheard = by (own == f) refl
+heard_more coordinator f n inc site t x was m other on unheard = by (coordinator == f) refl
   where
-    by : (b : Bool) → (own == f) ≡ b → expected_by t site was (and_told m (told.Op t n x)) ≡ expected_with site (expected_by t site was m) (answered_by f inc)
+    by : (b : Bool) → (coordinator == f) ≡ b → expected_by t site was (and_told m (told.Op t n x)) ≡ expected_with site (expected_by t site was m) (answered_by f inc)
     by true is =
         let off : is_answer t n m.input ≡ false = (let open_is : not (is_answer t n m.input) ≡ true = sym (rw is refl) ∙ on in grind (arith, common_steps, open_is)) in
-        let away : (f == site) ≡ false = (let same : own ≡ f = grind (arith, common_steps, is) in ap (λ (s : ℕ). s == site) (sym same) ∙ other) in
+        let away : (f == site) ≡ false = (let same : coordinator ≡ f = grind (arith, common_steps, is) in ap (λ (s : ℕ). s == site) (sym same) ∙ other) in
         own_more t n site x was m off ∙ rw away refl
     by false is = other_more t f n inc site x was m (sym (rw is refl) ∙ on) unheard
 
@@ -152,12 +152,12 @@ awaited n None e = absurd (true_not_false (sym e))
 awaited n (Some k) e = let same : k ≡ n = grind (arith, common_steps, e) in ap (λ (a : ℕ). Some a) same
 
 -- an answer that is taken
-pub answers : (own f n inc : ℕ) (steps : List Moment) (k : Kept) (m : Moment) (x : Answer) → IsKept own (steps ++ m ∷ []) k → is_awaited_from f n k.ops ≡ true
-    → brings own f inc k.txn n m.input ≡ true → IsKept own (steps ++ and_told m (told.Op k.txn n x) ∷ []) (record k { ops = with_answer f n inc k.ops })
-answers own f zero inc steps k m x kept due on = absurd (let parts = and_parts (is_awaited 0 (unanswered k.ops)) false due in true_not_false (sym parts.1))
-answers own f (suc i) inc steps k m x kept due on =
+pub answers : (coordinator f n inc : ℕ) (steps : List Moment) (k : Kept) (m : Moment) (x : Answer) → IsKept coordinator (steps ++ m ∷ []) k → is_awaited_from f n k.ops ≡ true
+    → brings coordinator f inc k.txn n m.input ≡ true → IsKept coordinator (steps ++ and_told m (told.Op k.txn n x) ∷ []) (record k { ops = with_answer f n inc k.ops })
+answers coordinator f zero inc steps k m x kept due on = absurd (let parts = and_parts (is_awaited 0 (unanswered k.ops)) false due in true_not_false (sym parts.1))
+answers coordinator f (suc i) inc steps k m x kept due on =
     let number : suc i - 1 ≡ i = omega arith in
-    subst (λ (j : ℕ). IsKept own (steps ++ and_told m (told.Op k.txn (suc i) x) ∷ []) (record k { ops = slice_set k.ops j (answered_by f inc) })) (sym number) (record {
+    subst (λ (j : ℕ). IsKept coordinator (steps ++ and_told m (told.Op k.txn (suc i) x) ∷ []) (record k { ops = slice_set k.ops j (answered_by f inc) })) (sym number) (record {
       sites = sites_set f i k.ops (answered_by f inc) parts.1 refl ∙ kept.sites
           ∙ ap (λ (ops : List Op). map (λ o. (key_of o).site) ops) (sym (still_issued k.txn steps m (told.Op k.txn (suc i) x) refl));
       told = λ j. answered_set 1 i j k.ops (answered_by f inc) (omega (arith, long)) refl ∙ ap (λ (n : ℕ). j == n || is_answered j k.ops) one
@@ -171,7 +171,7 @@ answers own f (suc i) inc steps k m x kept due on =
           expected_set site 1 i zeros k.ops (answered_by f inc) open_is (sym long)
           ∙ ap (λ (w : Expected). expected_with site w (answered_by f inc)) (kept.heard site other ∙ expected_push k.txn site steps m)
           ∙ sym (expected_push k.txn site steps (and_told m (told.Op k.txn (suc i) x))
-          ∙ heard_more own f (suc i) inc site k.txn x (fold (expected_by k.txn site) zeros steps) m other on unheard);
+          ∙ heard_more coordinator f (suc i) inc site k.txn x (fold (expected_by k.txn site) zeros steps) m other on unheard);
       why = kept.why ∙ ap (λ (l : List Refusal). slice_get l 0)
           (sym (reasons_more k.txn steps m (told.Op k.txn (suc i) x) ∙ nil_end (kept_reason k.txn (steps ++ m ∷ []))));
     })

@@ -100,8 +100,8 @@ by_quiet t site was m quiet = by m.input refl
     by (input.Elect u group) is = rw is refl
 
 -- a step that says nothing of the transaction
-pub passes : (own : ℕ) (steps : List Moment) (k : Kept) (m : Moment) → IsKept own steps k → IsQuiet k.txn m → IsKept own (steps ++ m ∷ []) k
-passes own steps k m kept quiet = record {
+pub passes : (coordinator : ℕ) (steps : List Moment) (k : Kept) (m : Moment) → IsKept coordinator steps k → IsQuiet k.txn m → IsKept coordinator (steps ++ m ∷ []) k
+passes coordinator steps k m kept quiet = record {
   sites = kept.sites ∙ ap (λ (ops : List Op). map (λ op. (key_of op).site) ops)
       (sym (issued_push k.txn steps m ∙ ap (λ (ops : List Op). issued k.txn steps ++ ops) quiet.issues ∙ nil_end (issued k.txn steps)));
   told = λ n. kept.told n ∙ sym (told_push k.txn n steps m ∙ ap (λ (b : Bool). op_told k.txn n steps || b) (quiet.tells n) ∙ or_false (op_told k.txn n steps));
@@ -113,10 +113,10 @@ passes own steps k m kept quiet = record {
 }
 
 -- the operation that a step issues, before the step tells anything
-pub issues : (own site : ℕ) (steps : List Moment) (k : Kept) (m : Moment) (op : Op) → IsKept own steps k → unanswered k.ops ≡ None → m.told ≡ []
+pub issues : (coordinator site : ℕ) (steps : List Moment) (k : Kept) (m : Moment) (op : Op) → IsKept coordinator steps k → unanswered k.ops ≡ None → m.told ≡ []
     → issued_in k.txn m.input [] ≡ op ∷ [] → (key_of op).site ≡ site
-    → IsKept own (steps ++ m ∷ []) (record k { ops = k.ops ++ record { site = site; answered = None } ∷ [] })
-issues own site steps k m op kept free silent made at = record {
+    → IsKept coordinator (steps ++ m ∷ []) (record k { ops = k.ops ++ record { site = site; answered = None } ∷ [] })
+issues coordinator site steps k m op kept free silent made at = record {
   sites = map_push (λ o. o.site) k.ops new ∙ ap (λ (l : List ℕ). l ++ site ∷ []) kept.sites
       ∙ ap (λ (s : ℕ). map (λ o. (key_of o).site) (issued k.txn steps) ++ s ∷ []) (sym at)
       ∙ sym (map_push (λ o. (key_of o).site) (issued k.txn steps) op)
@@ -234,9 +234,9 @@ by_more t site was m e quiet = by m.input refl
     by (input.Elect u group) is = rw is refl
 
 -- the reason for which a transaction is ended, which its last step tells
-pub ends : (own : ℕ) (steps : List Moment) (k : Kept) (m : Moment) (e : Told) (why : Refusal) → IsKept own (steps ++ m ∷ []) k → reason_in k.txn e ≡ why ∷ []
-    → IsKept own (steps ++ and_told m e ∷ []) (record k { why = or_kept k.why why })
-ends own steps k m e why kept is = record {
+pub ends : (coordinator : ℕ) (steps : List Moment) (k : Kept) (m : Moment) (e : Told) (why : Refusal) → IsKept coordinator (steps ++ m ∷ []) k → reason_in k.txn e ≡ why ∷ []
+    → IsKept coordinator (steps ++ and_told m e ∷ []) (record k { why = or_kept k.why why })
+ends coordinator steps k m e why kept is = record {
   sites = kept.sites ∙ ap (λ (ops : List Op). map (λ op. (key_of op).site) ops) (sym (still_issued k.txn steps m e quiet.1));
   told = λ n. kept.told n ∙ sym (told_more k.txn n steps m e ∙ ap (λ (b : Bool). b || op_told k.txn n (steps ++ m ∷ [])) (quiet.0 n));
   last = kept.last;

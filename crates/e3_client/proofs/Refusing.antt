@@ -83,31 +83,31 @@ aborted (Over dir ∷ more) all = absurd (true_not_false (sym all))
 aborted (TooLate attempt ∷ more) all = absurd (true_not_false (sym all))
 
 -- the operation that is unanswered
-pub count : (own : ℕ) (steps : List Moment) (k : Kept) → IsKept own steps k → length k.ops ≡ length (issued k.txn steps)
-count own steps k kept =
+pub count : (coordinator : ℕ) (steps : List Moment) (k : Kept) → IsKept coordinator steps k → length k.ops ≡ length (issued k.txn steps)
+count coordinator steps k kept =
     sym (long (λ (o : Issued). o.site) k.ops) ∙ ap length kept.sites ∙ long (λ (o : Op). (key_of o).site) (issued k.txn steps)
   where
     long : {X : Type 0} (f : X → ℕ) (xs : List X) → length (map f xs) ≡ length xs
     long f [] = refl
     long f (x ∷ xs) = ap suc (long f xs)
 
-pub unanswered_same : (own : ℕ) (log : List Record) (steps : List Moment) (k : Kept) → IsKept own steps k → is_undecided k.txn log ≡ true
+pub unanswered_same : (coordinator : ℕ) (log : List Record) (steps : List Moment) (k : Kept) → IsKept coordinator steps k → is_undecided k.txn log ≡ true
     → unanswered k.ops ≡ unanswered_at k.txn log steps
-unanswered_same own log steps k kept undecided = by (length (issued k.txn steps)) refl (unanswered k.ops) refl
+unanswered_same coordinator log steps k kept undecided = by (length (issued k.txn steps)) refl (unanswered k.ops) refl
   where
     by : (n : ℕ) → length (issued k.txn steps) ≡ n → (o : Option ℕ) → unanswered k.ops ≡ o → o ≡ unanswered_at k.txn log steps
     by zero is None e = rw is refl
     by zero is (Some m) e = absurd (
-        let low = from_first 1 m k.ops e in let last = kept.last m e in let same = count own steps k kept in omega (arith, is, low, last, same))
+        let low = from_first 1 m k.ops e in let last = kept.last m e in let same = count coordinator steps k kept in omega (arith, is, low, last, same))
     by (suc n) is None e =
-        let same = count own steps k kept in
+        let same = count coordinator steps k kept in
         let low : n < length k.ops = omega (arith, is, same) in
         let number : 1 + n ≡ suc n = omega arith in
         let yes : op_told k.txn (suc n) steps ≡ true =
         sym (kept.told (suc n)) ∙ subst (λ (a : ℕ). is_answered a k.ops ≡ true) number (all_answered 1 n k.ops e low) in
         rw (is, undecided, yes) refl
     by (suc n) is (Some m) e =
-        let same = count own steps k kept in
+        let same = count coordinator steps k kept in
         let last = kept.last m e in
         let number : m ≡ suc n = omega (arith, is, same, last) in
         let off : op_told k.txn (suc n) steps ≡ false =
@@ -230,6 +230,6 @@ cancel_same a made k st attempt at = by (decision k.txn (log_now a made)) refl
         open_cancel st attempt k off ∙ ap late_if at.attempt_is ∙ sym (rw (is, at.present) refl)
 
 -- what is expected of another site
-pub expected_same : (own inc site : ℕ) (steps : List Moment) (k : Kept) → IsKept own steps k → (own == site) ≡ false
-    → expected site k.ops ≡ expected_at own inc k.txn steps site
-expected_same own inc site steps k kept other = kept.heard site other ∙ sym (rw other refl)
+pub expected_same : (coordinator inc site : ℕ) (steps : List Moment) (k : Kept) → IsKept coordinator steps k → (coordinator == site) ≡ false
+    → expected site k.ops ≡ expected_at coordinator inc k.txn steps site
+expected_same coordinator inc site steps k kept other = kept.heard site other ∙ sym (rw other refl)

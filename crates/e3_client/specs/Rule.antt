@@ -31,11 +31,11 @@ is_answered n ops = is_answered_from 1 n ops
 -- A client keeps what its coordinator's steps of the incarnation say of the transaction: the sites of the operations that were
 -- issued, which of them were answered, at most the last unanswered; what is expected of each other site; and the first reason
 -- that was told.
-pub record IsKept (own : ℕ) (steps : List Moment) (k : Kept) : Type 0 where
+pub record IsKept (coordinator : ℕ) (steps : List Moment) (k : Kept) : Type 0 where
   pub sites : map (λ op. op.site) k.ops ≡ map (λ op. (key_of op).site) (issued k.txn steps)
   pub told : (n : ℕ) → is_answered n k.ops ≡ op_told k.txn n steps
   pub last : (n : ℕ) → unanswered k.ops ≡ Some n → n ≡ length k.ops
-  pub heard : (site : ℕ) → (own == site) ≡ false → expected site k.ops ≡ fold (expected_by k.txn site) (record { inc = 0; count = 0 }) steps
+  pub heard : (site : ℕ) → (coordinator == site) ≡ false → expected site k.ops ≡ fold (expected_by k.txn site) (record { inc = 0; count = 0 }) steps
   pub why : k.why ≡ slice_get (kept_reason k.txn steps) 0
 
 -- a step issues no operation of the transaction, and tells none of its answers and no reason
@@ -66,9 +66,9 @@ is_answer_of f inc t n (input.Deliver packet) = by packet.«from» packet.msg
     by g _ = false
 is_answer_of f inc t n _ = false
 
--- an answer comes with this input: that of another site by its packet, an own one with any input but such a packet
+-- an answer comes with this input: that of another site by its packet, the coordinator's own with any input but such a packet
 abbrev pub brings : ℕ → ℕ → ℕ → Txn → ℕ → Input → Bool
-brings own f inc t n i = if own == f then not (is_answer t n i) else is_answer_of f inc t n i
+brings coordinator f inc t n i = if coordinator == f then not (is_answer t n i) else is_answer_of f inc t n i
 
 -- The client of a transaction of the present incarnation, as a step reads it: its steps, and state and attempt by the log with
 -- what the step made. A transaction that committed was told no reason.

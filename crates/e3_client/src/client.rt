@@ -105,7 +105,7 @@ impl Client {
     /// A transaction that begins now. Want of memory is the only error; no other call takes any.
     pub fn begin(alloc: Global, txn: Txn) -> Result<Client, NoMemory>
         ensures begun { IfOk result (λ client. client ≡ record { txn = txn; ops = []; why = None }) }
-        ensures rule { IfOk result (λ client. (own : ℕ) → IsKept own [] client) }
+        ensures rule { IfOk result (λ client. (coordinator : ℕ) → IsKept coordinator [] client) }
     {
         match Vec::with_capacity(alloc, 64) {
             Ok(ops) => Ok(Client {
@@ -173,8 +173,8 @@ impl Client {
         requires few { length self.old.ops < 64 }
         requires within { IsTrue (has_site self.old.txn.sites site) }
         ensures issued { self.new ≡ record self.old { ops = self.old.ops ++ record { site = site; answered = None } ∷ [] } }
-        ensures rule { (own : ℕ) (steps : Items Moment) (m : Moment) (op : Op) → IsKept own steps self.old → m.told ≡ [] →
-            issued_in self.old.txn m.input [] ≡ op ∷ [] → (key_of op).site ≡ site → IsKept own (steps ++ m ∷ []) self.new }
+        ensures rule { (coordinator : ℕ) (steps : Items Moment) (m : Moment) (op : Op) → IsKept coordinator steps self.old → m.told ≡ [] →
+            issued_in self.old.txn m.input [] ≡ op ∷ [] → (key_of op).site ≡ site → IsKept coordinator (steps ++ m ∷ []) self.new }
     {
         self.push(Issued {
             site,
@@ -187,8 +187,8 @@ impl Client {
     pub fn expected(&self, site: u32) -> (u32, u32)
         ensures inc { result.0 ≡ (expected site self.now.ops).inc }
         ensures count { result.1 ≡ (expected site self.now.ops).count }
-        ensures rule { (own inc : ℕ) (steps : Items Moment) → IsKept own steps self.now → (own == site) ≡ false →
-            (result.0 ≡ (expected_at own inc self.now.txn steps site).inc) × (result.1 ≡ (expected_at own inc self.now.txn steps site).count) }
+        ensures rule { (coordinator inc : ℕ) (steps : Items Moment) → IsKept coordinator steps self.now → (coordinator == site) ≡ false →
+            (result.0 ≡ (expected_at coordinator inc self.now.txn steps site).inc) × (result.1 ≡ (expected_at coordinator inc self.now.txn steps site).count) }
     {
         let mut so_far = Expected { inc: 0, count: 0 };
         for op in &self.ops {
@@ -236,8 +236,8 @@ impl Client {
         ensures heard { result ≡ heard_of from n inc self.old.ops }
         ensures taken { result ≡ Taken → self.new ≡ record self.old { ops = with_answer from n inc self.old.ops } }
         ensures others { (result ≡ Taken → ⊥) → self.new ≡ self.old }
-        ensures rule { (own : ℕ) (steps : Items Moment) (m : Moment) (x : Answer) → result ≡ Taken → IsKept own (steps ++ m ∷ []) self.old →
-            brings own from inc self.old.txn n m.input ≡ true → IsKept own (steps ++ and_told m (told.Op self.old.txn n x) ∷ []) self.new }
+        ensures rule { (coordinator : ℕ) (steps : Items Moment) (m : Moment) (x : Answer) → result ≡ Taken → IsKept coordinator (steps ++ m ∷ []) self.old →
+            brings coordinator from inc self.old.txn n m.input ≡ true → IsKept coordinator (steps ++ and_told m (told.Op self.old.txn n x) ∷ []) self.new }
     {
         if !self.is_awaited_from(from, n) {
             return Heard::Stale;
@@ -315,8 +315,8 @@ impl Client {
     /// a request that died and for its doom; any other reason says no more than that it is over.
     pub fn end(&mut self, why: Refusal)
         ensures ended { self.new ≡ record self.old { why = or_kept self.old.why why } }
-        ensures rule { (own : ℕ) (steps : Items Moment) (m : Moment) (e : Told) → IsKept own (steps ++ m ∷ []) self.old →
-            reason_in self.old.txn e ≡ why ∷ [] → IsKept own (steps ++ and_told m e ∷ []) self.new }
+        ensures rule { (coordinator : ℕ) (steps : Items Moment) (m : Moment) (e : Told) → IsKept coordinator (steps ++ m ∷ []) self.old →
+            reason_in self.old.txn e ≡ why ∷ [] → IsKept coordinator (steps ++ and_told m e ∷ []) self.new }
     {
         self.keep(why);
     }
@@ -325,5 +325,5 @@ impl Client {
 /// The law that a client stays what its coordinator's steps say, behind a step that issues no operation of its transaction and
 /// tells none of its answers and no reason.
 pub fn quiet_steps_pass(_client: &Client)
-    ensures { (own : ℕ) (steps : Items Moment) (m : Moment) → IsKept own steps _client.now → IsQuiet _client.now.txn m → IsKept own (steps ++ m ∷ []) _client.now }
+    ensures { (coordinator : ℕ) (steps : Items Moment) (m : Moment) → IsKept coordinator steps _client.now → IsQuiet _client.now.txn m → IsKept coordinator (steps ++ m ∷ []) _client.now }
 {}

@@ -52,12 +52,18 @@ pub(crate) fn number_of(heard: &[Named], group: SiteSet) -> Option<u32>
     }
 }
 
-/// An answer to a call counts in the election of this own call: it is to that one, by a member of the group that was not
+/// An answer to a call counts in the election of the first call: it is to that one, by a member of the group that was not
 /// heard yet.
-pub(crate) fn is_awaited(own: Call, group: SiteSet, heard: &[Named], site: u32, call: Call) -> bool
-    ensures { result ≡ (same_call own call && has_site group site && not (list_any (λ h. h.site == site) heard.now)) }
+pub(crate) fn is_awaited(
+    of_election: Call,
+    group: SiteSet,
+    heard: &[Named],
+    site: u32,
+    call: Call,
+) -> bool
+    ensures { result ≡ (same_call of_election call && has_site group site && not (list_any (λ h. h.site == site) heard.now)) }
 {
-    own.is_same(call) && group.has(site) && !was_heard(heard, site)
+    of_election.is_same(call) && group.has(site) && !was_heard(heard, site)
 }
 
 /// A report under the election's number counts: it is by a member of the group that has not reported yet.

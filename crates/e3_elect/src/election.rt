@@ -66,13 +66,13 @@ impl Election {
         call: Call,
         group: SiteSet,
         site: u32,
-        own: u32,
+        elected: u32,
     ) -> Result<Election, NoMemory>
-        ensures { IfOk result (λ e. e ≡ begun site call group own) }
+        ensures { IfOk result (λ e. e ≡ begun site call group elected) }
     {
         let mut heard = room_for(alloc, group)?;
         let reports = room_for(alloc, group)?;
-        heard.push_reserved(Named { site, elected: own });
+        heard.push_reserved(Named { site, elected });
         Ok(Election {
             call,
             group,
@@ -121,28 +121,28 @@ impl Election {
     }
 
     // The elector's own report is the first, and no other came yet.
-    fn begin_reports(&mut self, own: SiteReport)
-        ensures { self.new ≡ record self.old { reports = own ∷ [] } }
+    fn begin_reports(&mut self, of_elector: SiteReport)
+        ensures { self.new ≡ record self.old { reports = of_elector ∷ [] } }
     {
         self.reports.clear();
-        self.reports.push_reserved(own);
+        self.reports.push_reserved(of_elector);
     }
 
     /// The elector joined the election's number, with its own report.
-    pub fn joined(&mut self, own: SiteReport)
+    pub fn joined(&mut self, of_elector: SiteReport)
         requires { IsSome (number_of self.old) }
-        ensures { self.new ≡ record self.old { number = number_of self.old; reports = own ∷ [] } }
+        ensures { self.new ≡ record self.old { number = number_of self.old; reports = of_elector ∷ [] } }
     {
         self.joined = self.number();
-        self.begin_reports(own);
+        self.begin_reports(of_elector);
     }
 
     /// The elector joined this number, with its own report, as its log says: it need not be the number that was found.
-    pub fn joined_under(&mut self, n: u32, own: SiteReport)
-        ensures { self.new ≡ record self.old { number = Some n; reports = own ∷ [] } }
+    pub fn joined_under(&mut self, n: u32, of_elector: SiteReport)
+        ensures { self.new ≡ record self.old { number = Some n; reports = of_elector ∷ [] } }
     {
         self.joined = Some(n);
-        self.begin_reports(own);
+        self.begin_reports(of_elector);
     }
 
     /// The number that the elector joined; none before it did.

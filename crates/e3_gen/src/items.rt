@@ -1,7 +1,9 @@
 // The steps of a transaction.
-ghost use Rattle.std.specs.Prelude.{◌≡◌, ◌≤◌, ◌++◌, ◌∷◌, [], ◌%◌, length, map, codes, IsTrue, IfOk, OnOk};
+ghost use Rattle.std.specs.Prelude.{◌≡◌, ◌≤◌, ◌++◌, ◌∷◌, [], ◌%◌, true, length, map, codes, IsTrue, IfOk, OnOk};
 ghost use Rattle.std.specs.Fmt.{decimal};
+ghost use Rattle.std.specs.List.{list_all};
 ghost use Rattle.e3_types.specs.Sets.{is_set, others};
+ghost use Rattle.e3_types.specs.Text.{is_letter};
 ghost use Rattle.e3_gen.specs.Generated.{step_of};
 ghost use Rattle.e3_gen.specs.Items.{five, txn_name, coordinator, sites_of, fellow, key_of, operations, cut_off, crashed, stopped, last_items, items_at, items_of};
 
@@ -13,23 +15,27 @@ use std::alloc::Global;
 /// The steps of a scenario.
 pub type Steps = List<List<Item>>;
 
-// A letter, and a number behind it, as a name. A name has room for them, so that want of memory is the only error.
+// The name that a letter and a number behind it make. Want of memory is the only error.
+#[tactic(auto, using(crate::proofs::Names::numbered_is_name))]
 fn numbered(alloc: Global, letter: &str, number: u32) -> Result<Name, NoMemory>
+    requires one { length letter.now ≡ 1 }
+    requires letter { list_all is_letter letter.now ≡ true }
     ensures { IfOk result (λ name. name ≡ letter.now ++ decimal number) }
 {
     let mut text = List::new(alloc);
     push_text(&mut text, letter)?;
     push_number(&mut text, number as u64)?;
-    Name::new(text.as_slice()).ok_or(NoMemory)
+    Ok(Name::new(text.as_slice()).unwrap())
 }
 
-// The digits of a number, as a value. It has room for them, so that want of memory is the only error.
+// The digits of a number, as a value. Want of memory is the only error.
+#[tactic(auto, using(crate::proofs::Names::decimal_is_value))]
 fn value_of(alloc: Global, number: u32) -> Result<Val, NoMemory>
     ensures { IfOk result (λ val. val ≡ decimal number) }
 {
     let mut text = List::new(alloc);
     push_number(&mut text, number as u64)?;
-    Val::new(text.as_slice()).ok_or(NoMemory)
+    Ok(Val::new(text.as_slice()).unwrap())
 }
 
 #[tactic(auto, unfolding(crate::specs::Items::txn_name))]

@@ -115,6 +115,11 @@ impl Prefix<'_> {
         if !is_empty(since_line(self.entries)) {
             return Ok(false);
         }
+        // (no set of sites has more than 64, so that a merge of more has no parts to compare with: as where a count is too
+        // great for its bits, more sites are said to want memory)
+        if self.scenario.weights.len() > 64 {
+            return Err(NoMemory);
+        }
         let due = parts_due(
             self.alloc,
             self.scenario,

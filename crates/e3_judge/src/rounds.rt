@@ -3,6 +3,7 @@ ghost use Rattle.std.specs.Prelude.{◌≡◌, ◌++◌, filter, find, IfOk};
 ghost use Rattle.std.specs.List.{flat_map};
 ghost use Rattle.e3_world.specs.Items.{due_round, elected_txn, inputs_of, is_up_at, listed, open_at, recover_group, rounds_left, since_line};
 
+use crate::counts::count_on;
 use crate::items::{is_up_at, since_line, to_line};
 use crate::packets::present_items;
 use crate::prefix::Prefix;
@@ -107,6 +108,7 @@ impl Prefix<'_> {
         ensures { IfOk result (λ u. out.new ≡ out.old ++ open_at self.now.scenario.now self.now.entries.now site) }
     {
         let incarnation = self.incarnation_at(site)?;
+        count_on(incarnation.since.len())?;
         let life = life_of(
             self.alloc,
             incarnation.rose.as_slice(),
@@ -130,6 +132,7 @@ impl Prefix<'_> {
     fn listed(&self, group: SiteSet) -> Result<List<RecoveryRound>, NoMemory>
         ensures { IfOk result (λ rounds. rounds ≡ listed self.now.scenario.now self.now.entries.now group) }
     {
+        // (for the proof alone: that the group ascends, as `count` says beside the count, so that those of it which are up do too)
         let _members = group.count();
         let up = up_in(self.alloc, self.entries, group)?;
         let open = self.open_of(up.as_slice())?;

@@ -6,7 +6,7 @@ ghost use Rattle.e3_world.specs.Legal.{entry_of, made_by, numbered};
 ghost use Rattle.e3_world.specs.Packets.{sent};
 ghost use Rattle.e3_judge.specs.Standing.{kept_in, nothing_yet, standing_by, stepped};
 
-use crate::counts::add;
+use crate::counts::{add, count_on};
 use crate::packets::sent_count;
 use crate::prefix::Prefix;
 use e3_readings::{present_log, rows_at};
@@ -294,6 +294,7 @@ impl Prefix<'_> {
         ensures { IfOk result (λ made. made ≡ made_by self.now.scenario.now self.now.entries.now site input.now) }
     {
         let now = self.incarnation_at(site)?;
+        count_on(now.since.len())?;
         step_of(
             self.alloc,
             self.scenario.weights.as_slice(),

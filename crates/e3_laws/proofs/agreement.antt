@@ -14,5 +14,6 @@ pub mod Facing
 pub mod Reporting
 pub mod Binding
 pub mod Single
+pub mod Guarding
 pub mod Protocol
 pub mod Refinement

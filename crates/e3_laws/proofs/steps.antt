@@ -12,7 +12,7 @@ pub mod Items
 pub mod Packets
 pub mod Deciding
 pub mod Moving
-mod Keeping
+pub mod Keeping
 mod Ending
 mod Inputs
 mod Histories

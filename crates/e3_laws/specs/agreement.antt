@@ -1,6 +1,8 @@
 pub mod Histories
 pub mod Claims
 pub mod Facts
+pub mod Guards
+pub mod Asked
 pub mod Logs
 pub mod Rules
 pub mod Invariant

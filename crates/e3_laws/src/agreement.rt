@@ -1,7 +1,9 @@
 //! In every legal history of many sites no two decisions of one transaction differ, each commit has every vote before it,
 //! and what was told stands. It follows from the protocol of one transaction, whose rules the steps of sites keep.
-ghost use Rattle.e3_laws.specs.agreement.Facts.{NumbersRise, ElectorsAreOne, ElectorsOfOwnReportNothing, ElectorsReportNothing, ReportsAreOnce, AttemptsFollowJoins, AttemptsStayBelow, OneDirectionPerNumber, ReportsTellThePast, ReportsHold, QuorumBindsLater, PreCommitHasVotes, PreCommitBarsRefusals, CommitHasQuorum, AbortHasReason};
+ghost use Rattle.e3_laws.specs.agreement.Facts.{NumbersRise, ElectorsAreOne, ElectorsOfOwnReportNothing, ElectorsReportNothing, ReportsAreOnce, AskedHaveReported, AttemptsFollowJoins, AttemptsStayBelow, OneDirectionPerNumber, ReportsTellThePast, ReportsHold, QuorumBindsLater, PreCommitHasVotes, PreCommitBarsRefusals, CommitHasQuorum, AbortHasReason};
 ghost use Rattle.e3_laws.specs.agreement.Claims.{HistoriesAgree, HistoriesTell, HistoriesToldStand, HistoriesVote, ItemsAreFit};
+ghost use Rattle.e3_laws.specs.agreement.Asked.{AttemptsAreMade, DecisionsAreMade};
+ghost use Rattle.e3_laws.specs.agreement.Guards.{AttemptsAreOpen, CommitsAreVoted, RoundsAreOpen};
 ghost use Rattle.e3_laws.specs.agreement.Protocol.{DecisionsAgree, InvariantHolds, MajoritiesMeet, MarksAgree, MarksTell, MarksVote, OneDirection, QuorumBinds, VerdictsKeepRules, VotesComeFirst};
 ghost use Rattle.e3_laws.specs.agreement.Examples.{CommitIsAllowed, RecoveryIsAllowed};
 ghost use Rattle.e3_laws.specs.agreement.Refinement.{SoundTrailsAgree, SoundTrailsAreMade, SoundTrailsVote, StepsKeepRules, TrailsAgree, TrailsKeepRules, TrailsTell, TrailsVote};
@@ -28,6 +30,7 @@ pub fn elections_bind()
     ensures electors_of_own_report_nothing { ElectorsOfOwnReportNothing }
     ensures reports_are_once { ReportsAreOnce }
     ensures electors_are_one { ElectorsAreOne }
+    ensures asked_have_reported { AskedHaveReported }
     ensures attempts_follow_joins { AttemptsFollowJoins }
     ensures attempts_stay_below { AttemptsStayBelow }
     ensures one_direction { OneDirectionPerNumber }
@@ -38,6 +41,23 @@ pub fn elections_bind()
     ensures pre_commit_bars_refusals { PreCommitBarsRefusals }
     ensures commit_has_quorum { CommitHasQuorum }
     ensures abort_has_reason { AbortHasReason }
+{}
+
+/// A step does what it is asked for, in any legal history of a scenario that keeps its rules. An attempt that the last yes, a
+/// commit at the only site or an election's verdict asks for is recorded. A decision that another site, a quorum of
+/// acknowledgements or an election's verdict asks for is in the log behind the step: recorded by it, or before.
+pub fn steps_do_what_is_asked()
+    ensures attempts { AttemptsAreMade }
+    ensures decisions { DecisionsAreMade }
+{}
+
+/// The tests by which a step sees whether it may record an attempt of its own, or a decision, do not fail where the tables of the
+/// protocol leave them out, in any legal history of a scenario that keeps its rules: who is asked for an attempt is undecided,
+/// joined that number last and has not attempted it; whose round is in progress may decide; and who is asked to commit has voted.
+pub fn guards_hold()
+    ensures attempts { AttemptsAreOpen }
+    ensures rounds { RoundsAreOpen }
+    ensures commits { CommitsAreVoted }
 {}
 
 /// Two sites that have decided have decided the same. It follows from an invariant that each move keeps.

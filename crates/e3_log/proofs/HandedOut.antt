@@ -21,18 +21,18 @@ some_told : (o : Option ℕ) → is_told (Whole o) ≡ true → (g : ℕ) × (o 
 some_told (Some g) is = (g, refl)
 some_told None is = absurd cc
 
-pub raw_some : (from : ℕ) (own : Front) (found : List Frame) → IsRaw from own found → is_told own ≡ true → 0 < length found
-raw_some from own [] raw told = absurd (true≢false (sym told ∙ ap is_told raw.front))
-raw_some from own (f ∷ fs) raw told = omega arith
+pub raw_some : (from : ℕ) (region_front : Front) (found : List Frame) → IsRaw from region_front found → is_told region_front ≡ true → 0 < length found
+raw_some from region_front [] raw told = absurd (true≢false (sym told ∙ ap is_told raw.front))
+raw_some from region_front (f ∷ fs) raw told = omega arith
 
-head_told : (from : ℕ) (own : Front) (f : Frame) (fs : List Frame) → IsRaw from own (f ∷ fs) → is_told own ≡ true → (g : ℕ) × (told_by f.body ≡ Some g)
-head_told from own f fs raw told = some_told (told_by f.body) (sym (ap is_told raw.front) ∙ told)
+head_told : (from : ℕ) (region_front : Front) (f : Frame) (fs : List Frame) → IsRaw from region_front (f ∷ fs) → is_told region_front ≡ true → (g : ℕ) × (told_by f.body ≡ Some g)
+head_told from region_front f fs raw told = some_told (told_by f.body) (sym (ap is_told raw.front) ∙ told)
 
-pub raw_head : (from : ℕ) (own : Front) (found : List Frame) → IsRaw from own found → is_told own ≡ true → from ≤ 2 ^ 30 → (first : Frame) (more : List Frame) → found ≡ first ∷ more
+pub raw_head : (from : ℕ) (region_front : Front) (found : List Frame) → IsRaw from region_front found → is_told region_front ≡ true → from ≤ 2 ^ 30 → (first : Frame) (more : List Frame) → found ≡ first ∷ more
     → (first.place < 2 ^ 32) × (5 ≤ length first.body)
-raw_head from own found raw told low first more is =
-    let here : IsRaw from own (first ∷ more) = subst (λ (l : List Frame). IsRaw from own l) is raw in
-    let t = head_told from own first more here told in
+raw_head from region_front found raw told low first more is =
+    let here : IsRaw from region_front (first ∷ more) = subst (λ (l : List Frame). IsRaw from region_front l) is raw in
+    let t = head_told from region_front first more here told in
     let same : first ≡ record { place = from + 5; body = first.body } = head_is first more from here.places in
     let place : first.place ≡ from + 5 = ap (λ (f : Frame). f.place) same in
     (omega (arith, place, low), told_long first.body t.0 t.1)
@@ -40,19 +40,19 @@ raw_head from own found raw told low first more is =
     head_is : (first : Frame) (more : List Frame) (from : ℕ) → (first ∷ more) ≡ frames_from from (bodies_of (first ∷ more)) → first ≡ record { place = from + 5; body = first.body }
     head_is first more from e = cc
 
-pub raw_handed : (from : ℕ) (own : Front) (found : List Frame) → IsRaw from own found → is_told own ≡ true → (first : Frame) (more : List Frame) → found ≡ first ∷ more
+pub raw_handed : (from : ℕ) (region_front : Front) (found : List Frame) → IsRaw from region_front found → is_told region_front ≡ true → (first : Frame) (more : List Frame) → found ≡ first ∷ more
     → handed_frames found ≡ short_frame first ∷ more
-raw_handed from own found raw told first more is =
-    let here : IsRaw from own (first ∷ more) = subst (λ (l : List Frame). IsRaw from own l) is raw in
-    let t = head_told from own first more here told in
+raw_handed from region_front found raw told first more is =
+    let here : IsRaw from region_front (first ∷ more) = subst (λ (l : List Frame). IsRaw from region_front l) is raw in
+    let t = head_told from region_front first more here told in
     ap handed_frames is ∙ its t.0 t.1
   where
     its : (g : ℕ) → told_by first.body ≡ Some g → handed_frames (first ∷ more) ≡ short_frame first ∷ more
     its g e = rw e refl
 
-pub raw_untold : (from : ℕ) (own : Front) (found : List Frame) → IsRaw from own found → is_told own ≡ false → handed_frames found ≡ found
-raw_untold from own [] raw told = refl
-raw_untold from own (f ∷ fs) raw told = by (told_by f.body) refl
+pub raw_untold : (from : ℕ) (region_front : Front) (found : List Frame) → IsRaw from region_front found → is_told region_front ≡ false → handed_frames found ≡ found
+raw_untold from region_front [] raw told = refl
+raw_untold from region_front (f ∷ fs) raw told = by (told_by f.body) refl
   where
     by : (o : Option ℕ) → told_by f.body ≡ o → handed_frames (f ∷ fs) ≡ f ∷ fs
     by None e = rw e refl
@@ -68,14 +68,14 @@ bodies_handed (f ∷ fs) = by (told_by f.body) refl
     by (Some g) e = rw e refl
 
 -- what is handed out where the first frame tells a generation
-pub handed_out : (from : ℕ) (own : Front) (found : List Frame) → IsRaw from own found → is_told own ≡ true → (r : Result (List Frame) NoMemory)
+pub handed_out : (from : ℕ) (region_front : Front) (found : List Frame) → IsRaw from region_front found → is_told region_front ≡ true → (r : Result (List Frame) NoMemory)
     → ((first : Frame) (more : List Frame) → found ≡ first ∷ more → IfOk r (λ out. out ≡ (record { place = from + 10; body = drop 5 first.body }) ∷ more))
     → IfOk r (λ out. out ≡ handed_frames found)
-handed_out from own [] raw told r makes = absurd (omega (arith, raw_some from own [] raw told))
-handed_out from own (f ∷ fs) raw told r makes =
+handed_out from region_front [] raw told r makes = absurd (omega (arith, raw_some from region_front [] raw told))
+handed_out from region_front (f ∷ fs) raw told r makes =
     let place : f.place ≡ from + 5 = ap (λ (x : Frame). x.place) (head_place f fs from raw.places) in
     let same : (record { place = from + 10; body = drop 5 f.body }) ∷ fs ≡ handed_frames (f ∷ fs) =
-    ap (λ (p : ℕ). (record { place = p; body = drop 5 f.body }) ∷ fs) (omega (arith, place)) ∙ sym (raw_handed from own (f ∷ fs) raw told f fs refl) in
+    ap (λ (p : ℕ). (record { place = p; body = drop 5 f.body }) ∷ fs) (omega (arith, place)) ∙ sym (raw_handed from region_front (f ∷ fs) raw told f fs refl) in
     subst (λ (l : List Frame). IfOk r (λ out. out ≡ l)) same (makes f fs refl)
   where
     head_place : (first : Frame) (more : List Frame) (from : ℕ) → (first ∷ more) ≡ frames_from from (bodies_of (first ∷ more)) → first ≡ record { place = from + 5; body = first.body }

@@ -39,9 +39,9 @@ pub record ReadsTo (from : ℕ) (content : List ℕ) (found : List Frame) (end :
   pub places : found ≡ frames_from from (bodies_of found)
 
 -- These are frames from a place on, and begin so.
-pub record IsRaw (from : ℕ) (own : Front) (found : List Frame) : Type 0 where
+pub record IsRaw (from : ℕ) (region_front : Front) (found : List Frame) : Type 0 where
   pub places : found ≡ frames_from from (bodies_of found)
-  pub front : own ≡ front_of (bodies_of found)
+  pub front : region_front ≡ front_of (bodies_of found)
 
 -- What was read of a disk: it holds frames in the region that counts, and these are handed out of them.
 pub record IsHeld (capacity : ℕ) (bytes : List ℕ) (h : Held) : Type 0 where

@@ -78,8 +78,8 @@ active_of (Whole told) Broken = Damaged Second
 
 -- the same, by how one region begins and how the other does
 abbrev pub found_of : Region → Front → Front → Found
-found_of First own spare = active_of own spare
-found_of Second own spare = active_of spare own
+found_of First here spare = active_of here spare
+found_of Second here spare = active_of spare here
 
 -- how this region begins, of the two
 abbrev pub own_of : Region → Front → Front → Front

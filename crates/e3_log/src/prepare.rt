@@ -63,13 +63,13 @@ fn hand_out(
     alloc: Global,
     from: u64,
     frames: List<Frame>,
-    own: Front,
+    region_front: Front,
 ) -> Result<List<Frame>, NoMemory>
-    requires raw { IsRaw from own frames }
+    requires raw { IsRaw from region_front frames }
     requires bound { from ≤ 2 ^ 30 }
     ensures { IfOk result (λ out. out ≡ handed_frames frames) }
 {
-    if own.is_told() {
+    if region_front.is_told() {
         without_head(alloc, from, frames)
     } else {
         Ok(frames)

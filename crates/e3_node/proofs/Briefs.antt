@@ -169,15 +169,15 @@ brief_now logs sounds mentions begun votes sc h site rose s given legal stands r
     both = in_order_alike sounds logs sc h site rose s given legal stands rose_orderly
 
 -- a site that was rebuilt of records tells the brief of each log with their brief
-pub brief_read : (site : ℕ) (read l : List Record) (up : SiteView) → IsRebuilt site read up → IsReadBrief site read l → l ≢ [] → (logged_inc read ≡ 0 → ⊥) → IsBriefOf up l
-brief_read site read l up is brief_is some begun = record {
+pub brief_read : (site : ℕ) (read l : List Record) (up : SiteView) → IsRebuilt site read up → IsReadBrief site read l → l ≢ [] → IsBriefOf up l
+brief_read site read l up is brief_is some = record {
   now = now;
   stands = is.stands;
   order = subst (λ (n : ℕ). IsInOrder up.weights n (life_of now)) (sym is.site_is) (record {
     orderly = subst (λ (x : List Record). IsOrderly site x) (sym log_is) brief_is.orderly;
     weights_are = λ any. ap weights_in log_is ∙ sym is.weights_are;
     inc_is = ap logged_inc (sym log_is);
-    begun = λ zero. absurd (begun (ap logged_inc (sym log_is) ∙ zero));
+    begun = λ zero. log_is ∙ brief_is.begun (ap logged_inc (sym log_is) ∙ zero);
     known = subst (λ (x : List Record). Each IsFoundByBits (txns_of x)) (sym log_is) brief_is.known;
   });
   same = ap brief (append-nil read) ∙ brief_is.same;

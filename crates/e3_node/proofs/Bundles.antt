@@ -1,5 +1,5 @@
 -- A batch of steps: what its site, its marks and its history come to.
-use Rattle.std.proofs.Common.{◌≡◌, ◌+◌, ◌-◌, ◌≤◌, ◌++◌, ◌∷◌, [], ℕ, suc, true, false, List, length, refl, sym, subst, ap, ◌∙◌, append-nil, append_assoc, map, arith}
+use Rattle.std.proofs.Common.{◌≡◌, ◌+◌, ◌-◌, ◌≤◌, ◌++◌, ◌∷◌, [], ℕ, suc, true, false, List, length, refl, sym, subst, ap, ◌∙◌, append-nil, append_assoc, length-append, map, arith}
 use Rattle.std.specs.List.{flat_map}
 use Rattle.std.proofs.lemmas.Grind.{flat_map-append}
 use Rattle.e3_disk.specs.Meaning.{Meaning}
@@ -131,6 +131,13 @@ steps_logged meaning sc h site inputs records logged new some made wrote =
     let P : List Record → Type 0 = λ l. IsLogged meaning site (entries_at (stepped sc h site inputs) site) l logged new in
     subst P (sym now)
     (logged_later meaning site (entries_at h site + 1) (log_of sc h site ++ records) (entries_at (stepped sc h site inputs) site) logged new (omega (arith, many, some)) wrote)
+
+pub stepped_long : (sc : Scenario) (h : List Entry) (site : ℕ) (inputs : List Input) → length (stepped sc h site inputs) ≡ length h + length inputs
+stepped_long sc h site [] = omega arith
+stepped_long sc h site (i ∷ inputs) =
+    let rest = stepped_long sc (h ++ entry_of sc h site i ∷ []) site inputs in
+    let one = length-append h (entry_of sc h site i ∷ []) in
+    omega (arith, rest, one)
 
 -- so many steps more
 pub stepped_count : (sc : Scenario) (h : List Entry) (site : ℕ) (inputs : List Input) → steps_at (stepped sc h site inputs) site ≡ steps_at h site + length inputs

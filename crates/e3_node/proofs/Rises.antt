@@ -58,12 +58,12 @@ use Rattle.e3_world.specs.Items.{add_txn, txn_of_record}
 use Rattle.e3_world.specs.Legal.{IsLegal, IsRise}
 use Rattle.e3_world.specs.Lives.{life_at}
 use Rattle.e3_world.specs.Logs.{logged_inc}
-use Rattle.e3_world.specs.Moves.{Move, Tail, left_by, log_of, moves_of, open_tail, rise_records, rows_at}
+use Rattle.e3_world.specs.Moves.{Move, Tail, left_by, log_by, log_of, moves_of, open_tail, rise_records, rows_at}
 use Rattle.e3_world.proofs.Pushes.{legal_push, life_log_at}
 use Rattle.e3_world.proofs.Readings.{up_same}
 use Rattle.e3_world.proofs.Turns.{self}
 use Rattle.e3_node.proofs.Briefs.{brief_own}
-use Rattle.e3_node.proofs.Guarding.{rise_guard}
+use Rattle.e3_node.proofs.Guarding.{rise_fall_guard, rise_guard}
 use Rattle.e3_node.proofs.Left.{left_tells, opened_reads}
 use Rattle.e3_node.proofs.Metering.{failed_since}
 use Rattle.e3_node.proofs.Orders.{log_in_order}
@@ -162,10 +162,23 @@ module _ (logs : LogsAreOrderly) (sets : LoggedSitesAreSets) (sounds : TrailsAre
             by [] is = cc
             by (r ∷ rs) is = cc
 
+    -- without an incarnation it is empty: it is the log of the history in which this rise fails
+    pub begun : logged_inc before ≡ 0 → before ≡ []
+    begun =
+        let fails : Entry = rise_fall_of of_wish kept next Fault in
+        let legal_then : IsLegal sc (h ++ fails ∷ []) = legal_push sc h fails may.legal (rise_fall_guard sc h of_wish kept next Fault may.some allowed) in
+        let all = in_order sounds logs sc (h ++ fails ∷ []) of_wish may.given legal_then in
+        let life_is : (life_at (moves_of sc (h ++ fails ∷ []) of_wish)).log ≡ before =
+        life_log_at (moves_of sc (h ++ fails ∷ []) of_wish) ∙ ap log_by (rise_fall_moves sc h of_wish kept next Fault) in
+        subst (λ (l : List Record). logged_inc l ≡ 0 → l ≡ []) life_is all.begun
+
     -- what was read, with the records of the rise behind it
     module _ (read : List Record) (orderly_read : IsOrderly of_wish read) (same : brief read ≡ brief before) where
       alike : ReadAlike before read
       alike = same_alike of_wish before read orderly orderly_read (sym same)
+
+      pub begun_read : logged_inc read ≡ 0 → read ≡ []
+      begun_read zero = alike.empty (begun (alike.inc ∙ zero))
 
       pub inc_is : suc (logged_inc read) ≡ next
       inc_is = ap suc (sym alike.inc)
@@ -253,6 +266,7 @@ module _ {D : Type 0} (meaning : Meaning D) (logs : LogsAreOrderly) (sets : Logg
       each-left (IsOfSite wish.site) kept_log _ (subst (λ (l : List Record). Each (IsOfSite wish.site) l) now (log_own mentions begun votes sc (h ++ e ∷ []) wish.site may.given legal_e)) in
       record {
         orderly = orderly_read;
+        begun = begun_read logs sets sounds sc h wish may ready.kept what.some is.read orderly_read same_brief;
         same = same_brief;
         log_orderly = orderly logs sets sounds sc h wish may ready.kept what.some;
         known = subst (λ (ts : List Txn). Each IsFoundByBits ts) (ap txns_of now ∙ no_txns kept_log up_next ∙ (same_alike wish.site kept_log is.read

@@ -89,6 +89,17 @@ left_freed marks o n played low few =
     let within : used_of marks ≤ most_of marks = played.within in
     omega (arith, used, most, within, few)
 
+-- 32 bits count the entries with so many more
+pub counted_freed : (marks : List Mark) (o n : ℕ) → IsPlayed marks → o ≤ last_owner marks → n ≤ (note_of o marks).places →
+    length (entries_of marks) + n ≤ 4294967295
+counted_freed marks o n played low few =
+    let freed : List Mark = marks ++ mark.Freed o ∷ [] in
+    let left : used_of freed + n ≤ most_of freed = left_freed marks o n played low few in
+    let most : most_of freed ≡ most_of marks = (freed_leaves o marks played low).0.most in
+    let same : length (entries_of freed) ≡ length (entries_of marks) = ap (λ (l : List Entry). length l) (entries_freed marks o) in
+    let bound = played.few in
+    omega (arith, left, most, same, bound)
+
 -- how many packets these entries send
 abbrev pub outs_in : List Entry → ℕ
 outs_in [] = 0

@@ -25,6 +25,7 @@ use Rattle.e3_site.specs.SiteView.{HasRoomFor, IsPlanOf, PlanView, SiteView, Sta
 use Rattle.e3_node.specs.site_log.Bodies.{IsLogged, ReadsLeft}
 use Rattle.e3_site.specs.StandsAlike.{IsLogInOrder, now_with}
 use Rattle.e3_site.proofs.Alike.{on, opens, plans, still as stands_still}
+use Rattle.e3_site.proofs.Steps.{steps_are_fewer}
 use Rattle.e3_readings.specs.Opens.{open_in}
 use Rattle.e3_types.specs.declared.entries.Act.TheVariants.{Fall, Cut}
 use Rattle.e3_types.specs.declared.entries.Entry.{Entry}
@@ -55,6 +56,14 @@ use Rattle.e3_node.proofs.Pasts.{entries_on, past_on}
 -- a site that stands for a history does so in the incarnation of the records that it rose with
 pub own_stands : {rose : List Record} (sc : Scenario) (h : List Entry) (site : ℕ) (s : SiteView) → StandsBy sc h site rose s → SiteStands (now_with rose sc h s.site) s
 own_stands {rose} sc h site s was = let P : ℕ → Type 0 = λ n. SiteStands (now_with rose sc h n) s in subst P (sym was.alike.site_is) was.alike.stands
+
+-- of which 32 bits count a step more, where they count the history's entries
+pub own_are_few : {rose : List Record} (sc : Scenario) (h : List Entry) (site : ℕ) (s : SiteView) → StandsBy sc h site rose s → is_up_at h site ≡ true → length h < 2 ^ 32 →
+    length (now_with rose sc h s.site).since < 4294967295
+own_are_few {rose} sc h site s was up few =
+    let fewer = steps_are_fewer sc h site up in
+    let P : ℕ → Type 0 = λ n. length (now_with rose sc h n).since < 4294967295 in
+    subst P (sym was.alike.site_is) (omega (arith, fewer, few))
 
 -- and what it plans in it is the step that the history makes
 pub plan_made : {rose : List Record} (sc : Scenario) (h : List Entry) (site : ℕ) (s : SiteView) (i : Input) → StandsBy sc h site rose s →

@@ -21,6 +21,7 @@ use Rattle.e3_types.specs.declared.scenarios.Scenario.{Scenario}
 use Rattle.e3_types.specs.declared.transactions.Txn.{Txn}
 use Rattle.e3_world.specs.declared.lives.Incarnation.{Incarnation}
 use Rattle.e3_world.specs.Lives.{life_of, present_log}
+use Rattle.e3_world.specs.Logs.{logged_inc}
 use Rattle.e3_world.specs.Moves.{log_of}
 
 -- The value stands for an incarnation whose log has the brief of this one; that is not empty, and what its brief has is the
@@ -38,9 +39,11 @@ pub record IsBriefOf (s : SiteView) (log : List Record) : Type 0 where
 abbrev pub BriefsAreTold : Scenario → List Entry → ℕ → List Record → Type 0
 BriefsAreTold sc history site rose = (s : SiteView) → StandsAlike sc history site rose s → IsBriefOf s (log_of sc history site)
 
--- These records are a log of the site with the brief of this one, and what the brief has is the site's own.
+-- These records are a log of the site with the brief of this one, without an incarnation only where there are none; and what the
+-- brief has is the site's own.
 pub record IsReadBrief (site : ℕ) (read log : List Record) : Type 0 where
   pub orderly : IsOrderly site read
+  pub begun : logged_inc read ≡ 0 → read ≡ []
   pub same : brief read ≡ brief log
   pub log_orderly : IsOrderly site log
   pub known : Each IsFoundByBits (txns_of read)

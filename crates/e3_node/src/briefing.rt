@@ -19,8 +19,7 @@ use crate::site_log::Short;
 use e3_disk::Disk;
 use e3_log::Log;
 use e3_places::txn_id;
-use e3_readings::logged_inc;
-use e3_site::{Site, brief, brief_of_site};
+use e3_site::{Site, brief_of_site};
 use e3_types::{Input, List, Message, NoMemory, Record, Txn};
 use std::alloc::Global;
 
@@ -65,9 +64,6 @@ fn brief_read(alloc: Global, site: u32, read: &[Record]) -> Result<List<Record>,
     ensures brief { (l : Items Records) → IsReadBrief site read.now l → IfOk result (λ out. out ≡ brief l) }
     ensures never { IsOrderly site read.now → result ≡ Err unready.Foreign → ⊥ }
 {
-    if logged_inc(read) == 0 {
-        return Ok(brief(alloc, read)?);
-    }
     let before = rebuilt(alloc, site, read)?;
     Ok(brief_of_site(alloc, &before)?)
 }

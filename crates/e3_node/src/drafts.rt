@@ -1,5 +1,5 @@
 // A step that is ready to be made.
-ghost use Rattle.std.specs.Prelude.{◌≡◌, IfOk};
+ghost use Rattle.std.specs.Prelude.{◌≡◌, ◌<◌, IfOk, length};
 ghost use Rattle.e3_node.specs.Drafts.{IsAsBefore, IsDraft, IsReady};
 ghost use Rattle.e3_site.specs.SiteView.{Stands};
 ghost use Rattle.e3_world.specs.declared.lives.Incarnation.{Incarnation};
@@ -29,10 +29,12 @@ fn draft_of(alloc: Global, plan: Plan, input: &Input) -> Result<Draft, NoMemory>
     Ok(Draft { plan, body, inputs })
 }
 
-/// Takes all memory that the step of an input may want at a site in this incarnation, and for its entry.
+/// Takes all memory that the step of an input may want at a site in this incarnation, and for its entry. 32 bits count a step
+/// more of it.
 pub(crate) fn planned(alloc: Global, site: &mut Site, input: &Input) -> Result<Draft, NoMemory>
     ghost now: { Incarnation }
-    requires { Stands now site.old }
+    requires stands { Stands now site.old }
+    requires few { length now.since < 4294967295 }
     ensures ready { IfOk result (IsReady now input.now site.old site.new) }
     ensures still { IsAsBefore site.old site.new }
 {
@@ -50,7 +52,8 @@ pub(crate) fn prepare(
     shared: &Shared,
 ) -> Result<Draft, NoMemory>
     ghost now: { Incarnation }
-    requires { Stands now site.old }
+    requires stands { Stands now site.old }
+    requires few { length now.since < 4294967295 }
     ensures ready { IfOk result (IsReady now input.now site.old site.new) }
     ensures still { IsAsBefore site.old site.new }
 {
@@ -66,7 +69,8 @@ pub(crate) fn prepare_by_turns(
     _pass: &WirePass,
 ) -> Result<Draft, NoMemory>
     ghost now: { Incarnation }
-    requires { Stands now site.old }
+    requires stands { Stands now site.old }
+    requires few { length now.since < 4294967295 }
     ensures ready { IfOk result (IsReady now input.now site.old site.new) }
     ensures still { IsAsBefore site.old site.new }
 {

@@ -68,9 +68,9 @@ unborn_stands places e f site inc = record {
 }
 
 -- the tables of a birth
-pub born_stands : (places : Places) (format own : ℕ) (weights : List ℕ) (rows : List Row) → RowsStand places.names.entries rows → places.txns.entries ≡ []
-    → (site inc : ℕ) → PlacesStand site places (risen inc (log.Birth format own weights rows ∷ []))
-born_stands places format own weights rows stand f site inc = record {
+pub born_stands : (places : Places) (format of_site : ℕ) (weights : List ℕ) (rows : List Row) → RowsStand places.names.entries rows → places.txns.entries ≡ []
+    → (site inc : ℕ) → PlacesStand site places (risen inc (log.Birth format of_site weights rows ∷ []))
+born_stands places format of_site weights rows stand f site inc = record {
   names_stand = λ name. stand name;
   txns_stand = λ k. ap (λ (l : List (TxnId × Claims)). claims_at l k) f;
 }

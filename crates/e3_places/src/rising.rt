@@ -45,7 +45,7 @@ fn add_rows(alloc: Global, names: &mut PlaceMap, rows: &[Row]) -> Result<(), NoM
 
 /// The tables of a log that is a birth with these rows. Want of memory is the only error.
 pub fn born(alloc: Global, rows: &[Row]) -> Result<Places, NoMemory>
-    ensures { IfOk result (λ p. (site inc format own : ℕ) (weights : Items ℕ) → PlacesStand site p (risen inc (log.Birth format own weights rows.now ∷ []))) }
+    ensures { IfOk result (λ p. (site inc format of_site : ℕ) (weights : Items ℕ) → PlacesStand site p (risen inc (log.Birth format of_site weights rows.now ∷ []))) }
 {
     let mut names = BTreeMap::new(alloc);
     add_rows(alloc, &mut names, rows)?;

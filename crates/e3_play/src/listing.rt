@@ -47,6 +47,7 @@ pub(crate) fn listed<S: Sites>(
     requires standing { S.stands sites.now }
     ensures { IfOk result (λ rounds. rounds ≡ listed (S.scenario sites.now) (S.entries sites.now) group) }
 {
+    // (for the proof alone: that the group ascends, as `count` says beside the count, so that those of it which are up do too)
     let _members = group.count();
     let up = up_in(alloc, sites, group)?;
     let open = open_of(alloc, sites, group)?;

@@ -28,6 +28,7 @@ fn set_parts<S: Sites>(
 ) -> Result<(), RunFault>
     requires played { S.scenario sites.old ≡ scenario.now }
     requires standing { S.stands sites.old }
+    requires given { IsGiven scenario.now }
     requires form { is_asking items.now ≡ true }
     requires fresh { IsFresh scenario.now (S.entries sites.old) items.now }
     ensures on { SitesGoOn S.stands S.since S.scenario S.most sites.old sites.new }
@@ -52,6 +53,7 @@ fn exchange<S: Sites>(
 ) -> Result<List<Addressed>, RunFault>
     requires played { S.scenario sites.old ≡ scenario.now }
     requires standing { S.stands sites.old }
+    requires given { IsGiven scenario.now }
     requires form { is_asking items.now ≡ true }
     requires fresh { IsFresh scenario.now (S.entries sites.old) items.now }
     requires known { KnowsNames scenario.now (S.entries sites.old) names.old }

@@ -1,11 +1,11 @@
 // The election of a transaction that is in progress at a site, read off its steps of the present incarnation.
-ghost use Rattle.std.specs.Prelude.{◌≡◌, ◌≤◌, if◌then◌else◌, None, IfOk, MatchOption, count_by, OnErr};
+ghost use Rattle.std.specs.Prelude.{◌≡◌, ◌≤◌, ◌<◌, if◌then◌else◌, None, IfOk, MatchOption, count_by, length};
 ghost use Rattle.std.specs.List.{list_any};
 ghost use Rattle.e3_world.specs.Logs.{last_elected};
 ghost use Rattle.e3_readings.specs.Electing.{election_anew, election_behind, election_taking, heard_all, report_by};
 ghost use Rattle.e3_world.specs.Elections.{is_decision, is_join, begun, joined_in, tells_verdict, ends_election, after_heard, election_with, election_by, election_in_progress, is_elect, next_call};
 
-use crate::counts::{next, small};
+use crate::counts::number_behind;
 use crate::logs::{last_attempt, last_elected, state_of};
 use e3_elect::Election;
 use e3_types::{Call, Input, Message, NoMemory, Packet, Record, SiteReport, SiteSet, Told, Txn};
@@ -245,6 +245,7 @@ fn election_by(
     was: Elections,
     m: &Moment,
 ) -> Result<Elections, NoMemory>
+    requires { was.calls < 4294967295 }
     ensures { IfOk result (λ e. record { calls = e.calls; now = e.now }
         ≡ election_by site inc t.now (record { calls = was.calls; now = was.now }) m.now) }
 {
@@ -252,7 +253,7 @@ fn election_by(
     let mut now = was.now;
     match &m.input {
         Input::Elect { txn, group } => {
-            calls = next(calls)?;
+            calls += 1;
             if t.is_same(txn) {
                 now = elected_anew(alloc, site, t, m, Call { inc, seq: calls }, *group)?;
             }
@@ -276,6 +277,7 @@ pub fn election_in_progress(
     t: &Txn,
     steps: &[Moment],
 ) -> Result<Option<Election>, NoMemory>
+    requires { length steps.now ≤ 4294967295 }
     ensures { IfOk result (λ o. o ≡ election_in_progress site inc t.now steps.now) }
 {
     let mut elections = Elections {
@@ -296,7 +298,8 @@ fn is_elect(m: &Moment) -> bool
 }
 
 fn count_elects(steps: &[Moment]) -> u64
-    ensures { result ≡ count_by is_elect steps.now }
+    ensures counted { result ≡ count_by is_elect steps.now }
+    ensures few { result ≤ length steps.now }
 {
     let mut count = 0;
     for m in steps {
@@ -307,15 +310,13 @@ fn count_elects(steps: &[Moment]) -> u64
     count
 }
 
-/// The call of an Elect that comes now: the incarnation, and the count of Elects in it with this one. NoMemory comes
-/// where the count would pass 32 bits.
-pub fn next_call(inc: u32, steps: &[Moment]) -> Result<Call, NoMemory>
-    ensures ok { IfOk result (λ call. call ≡ next_call inc steps.now) }
-    ensures err { OnErr result (4294967295 ≤ count_by is_elect steps.now) }
+/// The call of an Elect that comes now: the incarnation, and the count of Elects in it with this one.
+pub fn next_call(inc: u32, steps: &[Moment]) -> Call
+    requires { length steps.now < 4294967295 }
+    ensures { result ≡ next_call inc steps.now }
 {
-    let count = small(count_elects(steps))?;
-    Ok(Call {
+    Call {
         inc,
-        seq: next(count)?,
-    })
+        seq: number_behind(count_elects(steps)),
+    }
 }

@@ -24,7 +24,7 @@ mod votes;
 pub use asked::{add_asked, asked_of, copy_asked, first_asked, lock_for};
 pub use binding::{bind, nothing_bound};
 pub use bound_names::BoundNames;
-pub use counts::{next, number_behind};
+pub use counts::number_behind;
 pub use e3_locks::{add_name, add_names};
 pub use elections::{
     Electing, election_anew, election_behind, election_in_progress, has_decision, has_verdict,

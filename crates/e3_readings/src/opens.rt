@@ -1,5 +1,5 @@
 // The transactions that a site knows, and those of them that are open.
-ghost use Rattle.std.specs.Prelude.{◌≡◌, ◌++◌, ◌∷◌, [], fold, filter, map, IfOk, MatchOption};
+ghost use Rattle.std.specs.Prelude.{◌≡◌, ◌++◌, ◌∷◌, [], fold, filter, map, length, ◌≤◌, IfOk, MatchOption};
 ghost use Rattle.std.specs.List.{flat_map};
 ghost use Rattle.e3_world.specs.Items.{undecided_in};
 ghost use Rattle.e3_readings.specs.Opens.{open_in};
@@ -53,6 +53,7 @@ fn add_arrived(
     steps: &[Moment],
     txns: &mut List<Txn>,
 ) -> Result<(), NoMemory>
+    requires { length steps.now ≤ 4294967295 }
     ensures { IfOk result (λ u. txns.new ≡ txns.old ++ map (λ a. a.txn) (arrivals site steps.now)) }
 {
     let asked = arrivals(alloc, site, steps)?;
@@ -86,6 +87,7 @@ fn add_begun(steps: &[Moment], txns: &mut List<Txn>) -> Result<(), NoMemory>
 
 // All transactions that a site knows, some more than once.
 fn known_txns(alloc: Global, site: u32, life: &Life) -> Result<List<Txn>, NoMemory>
+    requires { length life.now.steps ≤ 4294967295 }
     ensures { IfOk result (λ txns. txns ≡ known_txns site life.now) }
 {
     let mut txns = List::new(alloc);
@@ -116,6 +118,7 @@ pub fn add_undecided_in(
     life: &Life,
     out: &mut List<Txn>,
 ) -> Result<(), NoMemory>
+    requires { length life.now.steps ≤ 4294967295 }
     ensures { IfOk result (λ u. out.new ≡ out.old ++ undecided_in site life.now) }
 {
     let known = known_txns(alloc, site, life)?;
@@ -135,6 +138,7 @@ pub fn in_order(alloc: Global, txns: &[Txn]) -> Result<List<Txn>, NoMemory>
 
 /// The undecided transactions that a site with this life knows, each once and ascending. Want of memory is the only error.
 pub fn open_in(alloc: Global, site: u32, life: &Life) -> Result<List<Txn>, NoMemory>
+    requires { length life.now.steps ≤ 4294967295 }
     ensures { IfOk result (λ txns. txns ≡ open_in site life.now) }
 {
     let mut undecided = List::new(alloc);

@@ -1,5 +1,5 @@
 // Operations of transactions at a site, read off its steps of the present incarnation.
-ghost use Rattle.std.specs.Prelude.{◌≡◌, ◌≤◌, ◌++◌, ◌∷◌, [], ◌&&◌, not, IfOk, OnErr, suc, option_copied};
+ghost use Rattle.std.specs.Prelude.{◌≡◌, ◌≤◌, ◌<◌, ◌++◌, ◌∷◌, [], ◌&&◌, not, IfOk, length, OnErr, suc, option_copied};
 ghost use Rattle.std.specs.List.{list_any, flat_map};
 ghost use Rattle.e3_types.specs.Same.{same_txn};
 ghost use Rattle.e3_readings.specs.Awaiting.{first_of};
@@ -9,7 +9,7 @@ ghost use Rattle.e3_world.specs.Logs.{is_undecided};
 ghost use Rattle.e3_world.specs.Operations.{is_refusal, issued_in, issued, nth_op, taken_up, same_asked, is_fresh, and_arrived, arrived_by, arrivals, answer_told, answer_sent, answers, is_answered, performed_by, done, waiting, done_locks, holders, holds, queue, tells_op, op_told, unanswered, expected_with, expected_by, expected, reason_in, kept_reason};
 
 use crate::asked::{asked_of, copy_asked};
-use crate::counts::{next, number_behind, small};
+use crate::counts::number_behind;
 use crate::logs::{is_undecided, key_of, lock_on, state_of, voted_locks};
 use e3_locks::mode_among;
 use e3_types::{
@@ -63,7 +63,7 @@ pub fn nth_op(n: u32, ops: &[Op]) -> Option<&Op>
     }
 }
 
-// How many operations of the transaction of a Do input these steps issued.
+// How many operations of the transaction of a Do input these steps issued, none more than there are steps.
 fn issued_before(alloc: Global, input: &Input, steps: &[Moment]) -> Result<u64, NoMemory>
     ensures { IfOk result (λ count. count ≡ issued_before input.now steps.now) }
 {
@@ -78,27 +78,23 @@ fn issued_before(alloc: Global, input: &Input, steps: &[Moment]) -> Result<u64, 
 
 /// The operation that an input brings to the site, where so many of its transaction were issued before and these events are
 /// told: that of a Do packet, or of a client's call for a key of the site's own that was not refused.
-pub fn brought(
-    site: u32,
-    count: u64,
-    input: &Input,
-    events: &[Told],
-) -> Result<Option<Asked>, NoMemory>
-    ensures { IfOk result (λ o. o ≡ brought site count input.now events.now) }
+pub fn brought(site: u32, count: u64, input: &Input, events: &[Told]) -> Option<Asked>
+    requires { count < 4294967295 }
+    ensures { result ≡ brought site count input.now events.now }
 {
     match input {
         Input::Deliver { packet } => match &packet.msg {
-            Message::Do { txn, n, op } => Ok(Some(asked_of(txn, *n, op))),
-            _ => Ok(None),
+            Message::Do { txn, n, op } => Some(asked_of(txn, *n, op)),
+            _ => None,
         },
         Input::Do { txn, op } => {
             if !has_refusal(events) && key_of(op).site == site {
-                Ok(Some(asked_of(txn, number_behind(count)?, op)))
+                Some(asked_of(txn, number_behind(count), op))
             } else {
-                Ok(None)
+                None
             }
         }
-        _ => Ok(None),
+        _ => None,
     }
 }
 
@@ -109,10 +105,11 @@ fn taken_up(
     steps: &[Moment],
     m: &Moment,
 ) -> Result<Option<Asked>, NoMemory>
+    requires { length steps.now < 4294967295 }
     ensures { IfOk result (λ o. o ≡ taken_up site steps.now m.now) }
 {
     let before = issued_before(alloc, &m.input, steps)?;
-    brought(site, before, &m.input, m.told.as_slice())
+    Ok(brought(site, before, &m.input, m.told.as_slice()))
 }
 
 /// The two are the same operation of the same transaction.
@@ -164,6 +161,7 @@ fn arrived_by(
     m: &Moment,
     asked: &mut List<Asked>,
 ) -> Result<(), NoMemory>
+    requires { length steps.now < 4294967295 }
     ensures { IfOk result (λ u. record { steps = steps.now ++ m.now ∷ []; asked = asked.new } ≡ arrived_by site (record { steps = steps.now; asked = asked.old }) m.now) }
 {
     let taken = taken_up(alloc, site, steps, m)?;
@@ -172,6 +170,7 @@ fn arrived_by(
 
 /// The operations that came to a site while their transactions were in q, each once, in the order of arrival.
 pub fn arrivals(alloc: Global, site: u32, steps: &[Moment]) -> Result<List<Asked>, NoMemory>
+    requires { length steps.now ≤ 4294967295 }
     ensures { IfOk result (λ out. out ≡ arrivals site steps.now) }
 {
     let mut asked = List::new(alloc);
@@ -265,6 +264,7 @@ pub fn done(
     t: &Txn,
     steps: &[Moment],
 ) -> Result<List<Performed>, NoMemory>
+    requires { length steps.now ≤ 4294967295 }
     ensures { IfOk result (λ out. out ≡ done site t.now steps.now) }
 {
     let all = arrivals(alloc, site, steps)?;
@@ -290,6 +290,7 @@ pub fn waiting(
     log: &[Record],
     steps: &[Moment],
 ) -> Result<List<Asked>, NoMemory>
+    requires { length steps.now ≤ 4294967295 }
     ensures { IfOk result (λ out. out ≡ waiting site log.now steps.now) }
 {
     let all = arrivals(alloc, site, steps)?;
@@ -316,6 +317,7 @@ fn done_locks(
     log: &[Record],
     steps: &[Moment],
 ) -> Result<List<Lock>, NoMemory>
+    requires { length steps.now ≤ 4294967295 }
     ensures { IfOk result (λ out. out ≡ done_locks site name.now log.now steps.now) }
 {
     let all = arrivals(alloc, site, steps)?;
@@ -336,6 +338,7 @@ pub fn holders(
     log: &[Record],
     steps: &[Moment],
 ) -> Result<List<Lock>, NoMemory>
+    requires { length steps.now ≤ 4294967295 }
     ensures { IfOk result (λ out. out ≡ holders site name.now log.now steps.now) }
 {
     let mut out = done_locks(alloc, site, name, log, steps)?;
@@ -353,6 +356,7 @@ pub fn holds(
     log: &[Record],
     steps: &[Moment],
 ) -> Result<Option<Mode>, NoMemory>
+    requires { length steps.now ≤ 4294967295 }
     ensures { IfOk result (λ mode. mode ≡ holds site t.now name.now log.now steps.now) }
 {
     let locks = holders(alloc, site, name, log, steps)?;
@@ -407,10 +411,11 @@ pub fn unanswered(
     log: &[Record],
     steps: &[Moment],
 ) -> Result<Option<u32>, NoMemory>
+    requires { length steps.now ≤ 4294967295 }
     ensures { IfOk result (λ o. o ≡ unanswered t.now log.now steps.now) }
 {
     let ops = issued(alloc, t, steps)?;
-    let n = small(ops.len())?;
+    let n = ops.len() as u32;
     if n != 0 && is_undecided(t, log) && !op_told(t, n, steps) {
         Ok(Some(n))
     } else {
@@ -425,95 +430,92 @@ pub fn tells_own(t: &Txn, u: &Txn, n: u32, events: &[Told]) -> bool
     t.is_same(u) && tell_op(t, n, events)
 }
 
-fn one_more(was: Expected, inc: u32) -> Result<Expected, NoMemory>
-    ensures ok { IfOk result (λ e. e ≡ record { inc = inc; count = suc was.count }) }
-    ensures err { OnErr result (4294967295 ≤ was.count) }
+fn one_more(was: Expected, inc: u32) -> Expected
+    requires { was.count < 4294967295 }
+    ensures { result ≡ record { inc = inc; count = suc was.count } }
 {
-    Ok(Expected {
+    Expected {
         inc,
-        count: next(was.count)?,
-    })
+        count: was.count + 1,
+    }
 }
 
-fn expected_with(
-    t: &Txn,
-    was: Expected,
-    events: &[Told],
-    msg: &Message,
-) -> Result<Expected, NoMemory>
-    ensures ok { IfOk result (λ e. e ≡ expected_with t.now was events.now msg.now) }
-    ensures err { OnErr result (4294967295 ≤ was.count) }
+fn expected_with(t: &Txn, was: Expected, events: &[Told], msg: &Message) -> Expected
+    requires { was.count < 4294967295 }
+    ensures { result ≡ expected_with t.now was events.now msg.now }
 {
     match msg {
         Message::Done { txn, n, inc, .. } => {
             if tells_own(t, txn, *n, events) {
                 one_more(was, *inc)
             } else {
-                Ok(was)
+                was
             }
         }
-        _ => Ok(was),
+        _ => was,
     }
 }
 
 // What is expected of another site behind one more step: a Done of it counts where its answer was told to the client.
-// NoMemory comes where the count would pass 32 bits.
-fn expected_by(t: &Txn, site: u32, was: Expected, m: &Moment) -> Result<Expected, NoMemory>
-    ensures ok { IfOk result (λ e. e ≡ expected_by t.now site was m.now) }
-    ensures err { OnErr result (4294967295 ≤ was.count) }
+fn expected_by(t: &Txn, site: u32, was: Expected, m: &Moment) -> Expected
+    requires { was.count < 4294967295 }
+    ensures { result ≡ expected_by t.now site was m.now }
 {
     match &m.input {
         Input::Deliver { packet } if packet.from == site => {
             expected_with(t, was, m.told.as_slice(), &packet.msg)
         }
-        _ => Ok(was),
+        _ => was,
     }
 }
 
 /// What is expected of the coordinator's own site, which has done these in this incarnation.
-pub fn own_expected(inc: u32, done: &[Performed]) -> Result<Expected, NoMemory>
-    ensures { IfOk result (λ e. e ≡ own_expected inc done.now) }
+pub fn own_expected(inc: u32, done: &[Performed]) -> Expected
+    requires { length done.now ≤ 4294967295 }
+    ensures { result ≡ own_expected inc done.now }
 {
     match done {
-        [] => Ok(Expected { inc: 0, count: 0 }),
-        [_, ..] => Ok(Expected {
+        [] => Expected { inc: 0, count: 0 },
+        [_, ..] => Expected {
             inc,
-            count: small(done.len() as u64)?,
-        }),
+            count: done.len() as u32,
+        },
     }
 }
 
 fn own_answers(
     alloc: Global,
-    own: u32,
+    coordinator: u32,
     inc: u32,
     t: &Txn,
     steps: &[Moment],
 ) -> Result<Expected, NoMemory>
-    ensures { IfOk result (λ e. e ≡ expected own inc t.now steps.now own) }
+    requires { length steps.now ≤ 4294967295 }
+    ensures { IfOk result (λ e. e ≡ expected coordinator inc t.now steps.now coordinator) }
 {
-    let answered = done(alloc, own, t, steps)?;
-    own_expected(inc, answered.as_slice())
+    let answered = done(alloc, coordinator, t, steps)?;
+    Ok(own_expected(inc, answered.as_slice()))
 }
 
-/// Under which incarnation a site answered operations of a transaction, and how many, as far as its coordinator, the
-/// own site, knows. The coordinator's own answers count with its present incarnation.
+/// Under which incarnation a site answered operations of a transaction, and how many, as far as its coordinator, at the
+/// site `coordinator`, knows. The coordinator's own answers count with its present incarnation.
 pub fn expected(
     alloc: Global,
-    own: u32,
+    coordinator: u32,
     inc: u32,
     t: &Txn,
     steps: &[Moment],
     site: u32,
 ) -> Result<Expected, NoMemory>
-    ensures { IfOk result (λ e. e ≡ expected own inc t.now steps.now site) }
+    requires { length steps.now ≤ 4294967295 }
+    ensures { IfOk result (λ e. e ≡ expected coordinator inc t.now steps.now site) }
 {
-    if own == site {
-        return own_answers(alloc, own, inc, t, steps);
+    if coordinator == site {
+        return own_answers(alloc, coordinator, inc, t, steps);
     }
     let mut e = Expected { inc: 0, count: 0 };
     for m in steps {
-        e = expected_by(t, site, e, m)?;
+        e = expected_by(t, site, e, m);
     }
     Ok(e)
 }

@@ -80,8 +80,9 @@ fn rounds_in_turn(alloc: Global, txns: &[Txn], up: &[u32]) -> Result<List<Recove
     Ok(rounds)
 }
 
-/// The rounds of a recovery step, where these transactions are open and these members of its group are up: one for each
-/// transaction, in ascending order; none of one that none of these is a site of. Want of memory is the only error.
+/// The rounds of a recovery step, where these transactions are open and these members of its group are up, a set of sites
+/// in ascending order: one for each transaction, in ascending order; none of one that none of these is a site of. Want of
+/// memory is the only error.
 pub fn rounds_of(alloc: Global, txns: &[Txn], up: &[u32]) -> Result<List<RecoveryRound>, NoMemory>
     requires { IsTrue (is_set up.now) }
     ensures { IfOk result (λ rounds. rounds ≡ flat_map (λ t. round_of t (filter (has_site t.sites) up.now)) (fold add_txn [] txns.now)) }

@@ -1,5 +1,5 @@
 // The steps of a scenario, and the lines that begin them in a history.
-ghost use Rattle.std.specs.Prelude.{◌≡◌, IfOk};
+ghost use Rattle.std.specs.Prelude.{◌≡◌, ◌≤◌, IfOk, length};
 ghost use Rattle.e3_world.specs.Legal.{parts_due};
 ghost use Rattle.e3_world.specs.Packets.{is_line, step_items};
 
@@ -28,20 +28,21 @@ pub fn is_line(entry: &Entry) -> bool
     matches!(entry.act, Act::Line { .. })
 }
 
-/// The parts of the network that a split or a merge asks for, which begins a step. Want of memory is the only error; a
-/// merge of more than 64 sites, which no set of sites can name, is said to want it.
+/// The parts of the network that a split or a merge asks for, which begins a step. Want of memory is the only error. The
+/// scenario has 64 sites at most, so that a set names those of a merge.
 pub fn parts_due(
     alloc: Global,
     scenario: &Scenario,
     items: &[Item],
 ) -> Result<Option<List<SiteSet>>, NoMemory>
+    requires { length scenario.now.weights ≤ 64 }
     ensures { IfOk result (λ due. due ≡ parts_due scenario.now items.now) }
 {
     match items {
         [Item::Split { parts }, ..] => Ok(Some(parts.copied(alloc)?)),
         [Item::Merge, ..] => {
             let mut parts = List::new(alloc);
-            parts.push(all_sites(scenario)?)?;
+            parts.push(all_sites(scenario))?;
             Ok(Some(parts))
         }
         _ => Ok(None),

@@ -23,7 +23,7 @@ sites_begun begun name = option_map (λ b. b.sites) (find (λ b. same_numbers na
 -- the sites are a transaction's, where there is one
 abbrev pub own_fault : ℕ → List ℕ → Option (List ℕ) → Option ScenarioFault
 own_fault step sites None = Some (fault.NoTxn step)
-own_fault step sites (Some own) = if is_within sites own then None else Some (fault.NoSite step)
+own_fault step sites (Some of_txn) = if is_within sites of_txn then None else Some (fault.NoSite step)
 
 -- An item speaks of a transaction and of these of its sites: the name was begun in an earlier step, and the sites are
 -- the transaction's.

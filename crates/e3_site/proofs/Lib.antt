@@ -13,4 +13,5 @@ mod Cards
 mod Fronts
 mod Telling
 pub mod Legal
+pub mod Steps
 pub mod AlikeTables

@@ -1,5 +1,6 @@
 // A step that a site has planned and not done.
 ghost use Rattle.std.specs.Prelude.{◌≡◌, ◌<◌, ◌^◌, IfOk, length, map};
+ghost use Rattle.e3_cards.specs.Tables.{AreCountable};
 ghost use Rattle.e3_site.specs.past.Stepping.{IsMadeOf};
 ghost use Rattle.e3_site.specs.SiteView.{entry_of_plan, step_kept};
 ghost use Rattle.e3_world.specs.Moves.{unnumbered};
@@ -77,6 +78,7 @@ impl Plan {
         input: &Input,
         made: Made,
     ) -> Result<Plan, NoMemory>
+        requires { AreCountable tables.now.cards }
         ensures kept { IfOk result (λ plan. plan.step ≡ step_kept input.now made) }
         ensures of_tables { IfOk result (λ plan. IsMadeOf tables.now plan.step plan.behind) }
         ensures few { IfOk result (λ plan. length plan.step.outs < 2 ^ 32) }

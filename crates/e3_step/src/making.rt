@@ -239,13 +239,13 @@ pub fn and_abort_for<P: Past>(p: &P, t: &Txn, why: Told, made: &mut Made) -> Res
 /// itself, else the pre-decision.
 pub fn and_attempt<P: Past>(
     p: &P,
-    own: Attempt,
+    attempt: Attempt,
     to: SiteSet,
     made: &mut Made,
 ) -> Result<(), NoMemory>
-    ensures { IfOk result (λ u. made.new ≡ and_attempt (P.at p.now) own.txn own.n own.dir to made.old) }
+    ensures { IfOk result (λ u. made.new ≡ and_attempt (P.at p.now) attempt.txn attempt.n attempt.dir to made.old) }
 {
-    let Attempt { txn, n, dir } = own;
+    let Attempt { txn, n, dir } = attempt;
     if !may_attempt(p, &txn, n, made) {
         return Ok(());
     }

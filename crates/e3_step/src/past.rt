@@ -1,5 +1,5 @@
 // What the rules of a step read of a site's past.
-ghost use Rattle.std.specs.Prelude.{◌≡◌, IfOk, count_by, length};
+ghost use Rattle.std.specs.Prelude.{◌≡◌, ◌<◌, IfOk, count_by, length};
 ghost use Rattle.std.specs.List.{list_any};
 ghost use Rattle.e3_types.specs.Same.{same_txn};
 ghost use Rattle.e3_world.specs.declared.lives.At.{At};
@@ -23,7 +23,8 @@ use std::alloc::Global;
 
 /// What the rules of a step read of a site's past, each reading as the definitions have it at one place, which `at`
 /// names: the site with its life before the step, and the input. Where a reading takes the step so far, its records and
-/// answers count too; those of names ask that it be the step that is made at this place, as far as it is made. Want of memory is the only error; a number past the greatest of its type is want of memory too.
+/// answers count too; those of names ask that it be the step that is made at this place, as far as it is made. What the step
+/// counts on has one more of 32 bits: the incarnation made fewer steps than that. Want of memory is the only error.
 pub trait Past {
     /// The place where the step is made.
     ghost at: { Self → At };
@@ -69,7 +70,8 @@ pub trait Past {
 
     /// How many operations of the transaction the steps before this one issued.
     fn issued_count(&self, t: &Txn) -> Result<u64, NoMemory>
-        ensures { IfOk result (λ n. n ≡ length (issued t.now (at self.now).life.steps)) };
+        ensures count { IfOk result (λ n. n ≡ length (issued t.now (at self.now).life.steps)) }
+        ensures few { IfOk result (λ n. n < 4294967295) };
 
     /// The operation of the transaction that is unanswered behind the steps before this one, if it is undecided now.
     fn unanswered(&self, t: &Txn, made: &Made) -> Result<Option<u32>, NoMemory>
@@ -132,10 +134,11 @@ pub trait Past {
         ensures { result ≡ round_in_progress (at self.now).site t.now (at self.now).life.steps };
 
     /// How many transactions the incarnation began before the step.
-    fn begins(&self) -> Result<u32, NoMemory>
-        ensures { IfOk result (λ n. n ≡ count_by is_begin (at self.now).life.steps) };
+    fn begins(&self) -> u32
+        ensures count { result ≡ count_by is_begin (at self.now).life.steps }
+        ensures few { result < 4294967295 };
 
     /// The call of an election that the step begins.
-    fn next_call(&self) -> Result<Call, NoMemory>
-        ensures { IfOk result (λ call. call ≡ next_call (at self.now).life.inc (at self.now).life.steps) };
+    fn next_call(&self) -> Call
+        ensures { result ≡ next_call (at self.now).life.inc (at self.now).life.steps };
 }

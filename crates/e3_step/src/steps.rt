@@ -20,7 +20,7 @@ use crate::messages::on_message;
 use crate::past::Past;
 use e3_client::{refuse_attempted, refuse_open};
 use e3_elect::Election;
-use e3_readings::{key_of, next, number_behind};
+use e3_readings::{key_of, number_behind};
 use e3_types::{Dir, Input, List, Message, NoMemory, Op, Refusal, SiteSet, State, Told, Txn};
 use e3_world::Made;
 use std::mem;
@@ -64,7 +64,7 @@ pub fn refuse<P: Past>(
 pub fn on_begin<P: Past>(p: &P, sites: SiteSet, made: &mut Made) -> Result<(), NoMemory>
     ensures { IfOk result (λ u. made.new ≡ on_begin (P.at p.now) sites made.old) }
 {
-    let seq = next(p.begins()?)?;
+    let seq = p.begins() + 1;
     and_tell(
         Told::Began {
             txn: Txn {
@@ -136,7 +136,7 @@ pub fn on_expire<P: Past>(p: &P, t: &Txn, made: &mut Made) -> Result<(), NoMemor
 pub fn on_elect<P: Past>(p: &P, t: &Txn, group: SiteSet, made: &mut Made) -> Result<(), NoMemory>
     ensures { IfOk result (λ u. made.new ≡ on_elect (P.at p.now) t.now group made.old) }
 {
-    let call = p.next_call()?;
+    let call = p.next_call();
     let e = Election::start(p.alloc(), call, group, p.site(), elected_now(p, t, made))?;
     and_cast(p, group, &Message::Ask { txn: *t, call }, made)?;
     and_join(p, t, &e, made)
@@ -145,7 +145,7 @@ pub fn on_elect<P: Past>(p: &P, t: &Txn, group: SiteSet, made: &mut Made) -> Res
 fn on_operation<P: Past>(p: &P, t: &Txn, op: &Op, made: &mut Made) -> Result<(), NoMemory>
     ensures { IfOk result (λ u. made.new ≡ and_send (P.at p.now) (key_of op.now).site (msg.Do t.now (suc (length (issued t.now (P.at p.now).life.steps))) op.now) made.old) }
 {
-    let n = number_behind(p.issued_count(t)?)?;
+    let n = number_behind(p.issued_count(t)?);
     and_send(
         p,
         key_of(op).site,

@@ -95,8 +95,8 @@ ran_without_text meaning left source_faults written sink_faults words most was n
   sink_failed = λ four. absurd (other 4 (λ f. omega (arith, f)) (λ f. omega (arith, f)) which four);
   no_memory = λ e. (short e, same);
   complete_run = λ run whole calm. inr (inl (memory which whole));
-  complete_drill = λ drill calm. inr (inl (only_memory which (λ e. no_reads (may.runs (inr e)) (inr drill))));
-  complete_gen = λ gen calm. inr (only_memory which (λ e. no_reads (may.runs (inr e)) (inl gen)));
+  complete_drill = λ drill calm. inr (inl (only_memory which (λ e. no_reads (may.source_failed e) (inr drill))));
+  complete_gen = λ gen calm. inr (only_memory which (λ e. no_reads (may.source_failed e) (inl gen)));
   complete_check = λ check whole calm. inr (inl (memory which whole));
   statuses = may;
   told = told;

@@ -15,20 +15,17 @@ use Rattle.e3_types.specs.declared.scenarios.Scenario.{Scenario}
 use Rattle.e3_top.specs.Commands.{IsCommand, Spell}
 use Rattle.e3_top.specs.declared.commands.Command.TheVariants.{Run, Gen, Drill, Check}
 
--- the status is neither of these
-neither : {P : Type 0} (s a b : ℕ) → s ≢ a → s ≢ b → (s ≡ a) ⊎ (s ≡ b) → P
-neither s a b one other (inl e) = absurd (one e)
-neither s a b one other (inr e) = absurd (other e)
-
 -- which statuses come for words that spell no command, and for those of each command
 pub may_refuse : (words : List (String Global)) → ¬ IsCommand words → MayEnd words 1
 may_refuse words other = record {
   known = inl (omega arith);
-  commands = λ e. absurd (omega (arith, e));
-  others = λ e. other;
-  runs = neither 1 2 3 (λ e. omega (arith, e)) (λ e. omega (arith, e));
-  played = λ e. absurd (omega (arith, e));
-  judged = neither 1 8 9 (λ e. omega (arith, e)) (λ e. omega (arith, e));
+  done = λ e. absurd (omega (arith, e));
+  words_refused = λ e. other;
+  scenario_refused = λ e. absurd (omega (arith, e));
+  source_failed = λ e. absurd (omega (arith, e));
+  history_full = λ e. absurd (omega (arith, e));
+  illegal = λ e. absurd (omega (arith, e));
+  no_trace = λ e. absurd (omega (arith, e));
   generated = λ gen. absurd (other (record { command = Gen gen.n; spelled = gen.spelled }));
   drilled = λ drill. absurd (other (record { command = Drill drill.n; spelled = drill.spelled }));
 }
@@ -36,11 +33,13 @@ may_refuse words other = record {
 pub may_run : (words : List (String Global)) (status : ℕ) → IsRun words → status ≤ 6 → status ≢ 1 → MayEnd words status
 may_run words status run low other = record {
   known = inl low;
-  commands = λ e. record { command = Run run.trace; spelled = run.spelled };
-  others = λ e. absurd (other e);
-  runs = λ e. inl run;
-  played = λ e. inl run;
-  judged = neither status 8 9 (λ e. omega (arith, e, low)) (λ e. omega (arith, e, low));
+  done = λ e. record { command = Run run.trace; spelled = run.spelled };
+  words_refused = λ e. absurd (other e);
+  scenario_refused = λ e. inl run;
+  source_failed = λ e. inl run;
+  history_full = λ e. inl run;
+  illegal = λ e. absurd (omega (arith, e, low));
+  no_trace = λ e. absurd (omega (arith, e, low));
   generated = λ gen. absurd (run_no_gen run gen);
   drilled = λ drill. absurd (run_no_drill run drill);
 }
@@ -48,11 +47,13 @@ may_run words status run low other = record {
 pub may_tell : (words : List (String Global)) (n status : ℕ) → Spell words (Gen n) → status ≡ 0 → MayEnd words status
 may_tell words n status gen none = record {
   known = inl (omega (arith, none));
-  commands = λ e. record { command = Gen n; spelled = gen };
-  others = λ e. absurd (omega (arith, e, none));
-  runs = neither status 2 3 (λ e. omega (arith, e, none)) (λ e. omega (arith, e, none));
-  played = λ e. absurd (omega (arith, e, none));
-  judged = neither status 8 9 (λ e. omega (arith, e, none)) (λ e. omega (arith, e, none));
+  done = λ e. record { command = Gen n; spelled = gen };
+  words_refused = λ e. absurd (omega (arith, e, none));
+  scenario_refused = λ e. absurd (omega (arith, e, none));
+  source_failed = λ e. absurd (omega (arith, e, none));
+  history_full = λ e. absurd (omega (arith, e, none));
+  illegal = λ e. absurd (omega (arith, e, none));
+  no_trace = λ e. absurd (omega (arith, e, none));
   generated = λ other. inl none;
   drilled = λ drill. absurd (gen_no_drill (record { n = n; spelled = gen }) drill);
 }
@@ -60,21 +61,25 @@ may_tell words n status gen none = record {
 pub may_drill : (words : List (String Global)) (n status : ℕ) → Spell words (Drill n) → (status ≡ 0) ⊎ (status ≡ 6) → MayEnd words status
 may_drill words n status drill (inl none) = record {
   known = inl (omega (arith, none));
-  commands = λ e. record { command = Drill n; spelled = drill };
-  others = λ e. absurd (omega (arith, e, none));
-  runs = neither status 2 3 (λ e. omega (arith, e, none)) (λ e. omega (arith, e, none));
-  played = λ e. absurd (omega (arith, e, none));
-  judged = neither status 8 9 (λ e. omega (arith, e, none)) (λ e. omega (arith, e, none));
+  done = λ e. record { command = Drill n; spelled = drill };
+  words_refused = λ e. absurd (omega (arith, e, none));
+  scenario_refused = λ e. absurd (omega (arith, e, none));
+  source_failed = λ e. absurd (omega (arith, e, none));
+  history_full = λ e. absurd (omega (arith, e, none));
+  illegal = λ e. absurd (omega (arith, e, none));
+  no_trace = λ e. absurd (omega (arith, e, none));
   generated = λ gen. absurd (gen_no_drill gen (record { n = n; spelled = drill }));
   drilled = λ other. inl none;
 }
 may_drill words n status drill (inr six) = record {
   known = inl (omega (arith, six));
-  commands = λ e. record { command = Drill n; spelled = drill };
-  others = λ e. absurd (omega (arith, e, six));
-  runs = neither status 2 3 (λ e. omega (arith, e, six)) (λ e. omega (arith, e, six));
-  played = λ e. inr (record { n = n; spelled = drill });
-  judged = neither status 8 9 (λ e. omega (arith, e, six)) (λ e. omega (arith, e, six));
+  done = λ e. record { command = Drill n; spelled = drill };
+  words_refused = λ e. absurd (omega (arith, e, six));
+  scenario_refused = λ e. absurd (omega (arith, e, six));
+  source_failed = λ e. absurd (omega (arith, e, six));
+  history_full = λ e. inr (record { n = n; spelled = drill });
+  illegal = λ e. absurd (omega (arith, e, six));
+  no_trace = λ e. absurd (omega (arith, e, six));
   generated = λ gen. absurd (gen_no_drill gen (record { n = n; spelled = drill }));
   drilled = λ other. inr (inr (inr six));
 }
@@ -82,11 +87,13 @@ may_drill words n status drill (inr six) = record {
 pub may_check : (words : List (String Global)) (status : ℕ) → IsCheck words → (status ≡ 0) ⊎ (status ≡ 2) ⊎ (status ≡ 8) ⊎ (status ≡ 9) → MayEnd words status
 may_check words status check is = record {
   known = known is;
-  commands = λ e. record { command = Check; spelled = check.spelled };
-  others = λ e. absurd (other 1 (λ f. omega (arith, f)) (λ f. omega (arith, f)) (λ f. omega (arith, f)) (λ f. omega (arith, f)) e);
-  runs = λ e. inr check;
-  played = λ e. absurd (other 6 (λ f. omega (arith, f)) (λ f. omega (arith, f)) (λ f. omega (arith, f)) (λ f. omega (arith, f)) e);
-  judged = λ e. check;
+  done = λ e. record { command = Check; spelled = check.spelled };
+  words_refused = λ e. absurd (other 1 (λ f. omega (arith, f)) (λ f. omega (arith, f)) (λ f. omega (arith, f)) (λ f. omega (arith, f)) e);
+  scenario_refused = λ e. inr check;
+  source_failed = λ e. inr check;
+  history_full = λ e. absurd (other 6 (λ f. omega (arith, f)) (λ f. omega (arith, f)) (λ f. omega (arith, f)) (λ f. omega (arith, f)) e);
+  illegal = λ e. check;
+  no_trace = λ e. check;
   generated = λ gen. absurd (gen_no_check gen check);
   drilled = λ drill. absurd (drill_no_check drill check);
 }
@@ -109,11 +116,13 @@ may_check words status check is = record {
 pub may_lose : (words : List (String Global)) → IsRun words ⊎ IsCheck words → MayEnd words 3
 may_lose words reads = record {
   known = inl (omega arith);
-  commands = λ e. absurd (omega (arith, e));
-  others = λ e. absurd (omega (arith, e));
-  runs = λ e. reads;
-  played = λ e. absurd (omega (arith, e));
-  judged = neither 3 8 9 (λ e. omega (arith, e)) (λ e. omega (arith, e));
+  done = λ e. absurd (omega (arith, e));
+  words_refused = λ e. absurd (omega (arith, e));
+  scenario_refused = λ e. reads;
+  source_failed = λ e. reads;
+  history_full = λ e. absurd (omega (arith, e));
+  illegal = λ e. absurd (omega (arith, e));
+  no_trace = λ e. absurd (omega (arith, e));
   generated = λ gen. absurd (by_gen reads gen);
   drilled = λ drill. absurd (by_drill reads drill);
 }
@@ -130,11 +139,13 @@ may_lose words reads = record {
 pub may_fail : (words : List (String Global)) → MayEnd words 4
 may_fail words = record {
   known = inl (omega arith);
-  commands = λ e. absurd (omega (arith, e));
-  others = λ e. absurd (omega (arith, e));
-  runs = neither 4 2 3 (λ e. omega (arith, e)) (λ e. omega (arith, e));
-  played = λ e. absurd (omega (arith, e));
-  judged = neither 4 8 9 (λ e. omega (arith, e)) (λ e. omega (arith, e));
+  done = λ e. absurd (omega (arith, e));
+  words_refused = λ e. absurd (omega (arith, e));
+  scenario_refused = λ e. absurd (omega (arith, e));
+  source_failed = λ e. absurd (omega (arith, e));
+  history_full = λ e. absurd (omega (arith, e));
+  illegal = λ e. absurd (omega (arith, e));
+  no_trace = λ e. absurd (omega (arith, e));
   generated = λ gen. inr (inl refl);
   drilled = λ drill. inr (inl refl);
 }
@@ -142,11 +153,13 @@ may_fail words = record {
 pub may_want : (words : List (String Global)) → MayEnd words 5
 may_want words = record {
   known = inl (omega arith);
-  commands = λ e. absurd (omega (arith, e));
-  others = λ e. absurd (omega (arith, e));
-  runs = neither 5 2 3 (λ e. omega (arith, e)) (λ e. omega (arith, e));
-  played = λ e. absurd (omega (arith, e));
-  judged = neither 5 8 9 (λ e. omega (arith, e)) (λ e. omega (arith, e));
+  done = λ e. absurd (omega (arith, e));
+  words_refused = λ e. absurd (omega (arith, e));
+  scenario_refused = λ e. absurd (omega (arith, e));
+  source_failed = λ e. absurd (omega (arith, e));
+  history_full = λ e. absurd (omega (arith, e));
+  illegal = λ e. absurd (omega (arith, e));
+  no_trace = λ e. absurd (omega (arith, e));
   generated = λ gen. inr (inr refl);
   drilled = λ drill. inr (inr (inl refl));
 }
@@ -179,14 +192,15 @@ run_completes words status {P} may known rose run calm = by known
   where
     small : (s : ℕ) → status ≡ s → s ≤ 2 → (status ≡ 0) ⊎ (status ≡ 5) ⊎ (status ≡ 2) ⊎ (status ≡ 6)
     small zero e low = inl e
-    small (suc zero) e low = absurd (may.others e (record { command = Run run.trace; spelled = run.spelled }))
+    small (suc zero) e low = absurd (may.words_refused e (record { command = Run run.trace; spelled = run.spelled }))
     small (suc (suc zero)) e low = inr (inr (inl e))
     small (suc (suc (suc s))) e low = absurd (omega (arith, low))
 
     by : HasText status ⊎ (status ≡ 4) → (status ≡ 0) ⊎ (status ≡ 5) ⊎ (status ≡ 2) ⊎ (status ≡ 6)
     by (inl (inl low)) = small status refl low
     by (inl (inr (inl e))) = inr (inr (inr e))
-    by (inl (inr (inr e))) = absurd (run_no_check run (may.judged e))
+    by (inl (inr (inr (inl e)))) = absurd (run_no_check run (may.illegal e))
+    by (inl (inr (inr (inr e)))) = absurd (run_no_check run (may.no_trace e))
     by (inr e) = absurd (calm (rose e))
 
 pub check_completes : (words : List (String Global)) (status : ℕ) {P : Type 0} → MayEnd words status → HasText status ⊎ (status ≡ 4) → (status ≡ 4 → P) → IsCheck words → ¬ P →
@@ -195,7 +209,7 @@ check_completes words status {P} may known rose check calm = by known
   where
     small : (s : ℕ) → status ≡ s → s ≤ 2 → (status ≡ 0) ⊎ (status ≡ 5) ⊎ (status ≡ 2) ⊎ (status ≡ 8) ⊎ (status ≡ 9)
     small zero e low = inl e
-    small (suc zero) e low = absurd (may.others e (record { command = Check; spelled = check.spelled }))
+    small (suc zero) e low = absurd (may.words_refused e (record { command = Check; spelled = check.spelled }))
     small (suc (suc zero)) e low = inr (inr (inl e))
     small (suc (suc (suc s))) e low = absurd (omega (arith, low))
 
@@ -205,7 +219,7 @@ check_completes words status {P} may known rose check calm = by known
 
     by : HasText status ⊎ (status ≡ 4) → (status ≡ 0) ⊎ (status ≡ 5) ⊎ (status ≡ 2) ⊎ (status ≡ 8) ⊎ (status ≡ 9)
     by (inl (inl low)) = small status refl low
-    by (inl (inr (inl e))) = absurd (played (may.played e))
+    by (inl (inr (inl e))) = absurd (played (may.history_full e))
     by (inl (inr (inr e))) = inr (inr (inr e))
     by (inr e) = absurd (calm (rose e))
 

@@ -37,11 +37,13 @@ most_bytes Check = 268435457
 -- and 5 are those of all words.
 pub record MayEnd (words : List (String Global)) (status : ℕ) : Type 0 where
   pub known : (status ≤ 6) ⊎ (status ≡ 8) ⊎ (status ≡ 9)
-  pub commands : status ≡ 0 → IsCommand words
-  pub others : status ≡ 1 → ¬ IsCommand words
-  pub runs : (status ≡ 2) ⊎ (status ≡ 3) → IsRun words ⊎ IsCheck words
-  pub played : status ≡ 6 → IsRun words ⊎ IsDrill words
-  pub judged : (status ≡ 8) ⊎ (status ≡ 9) → IsCheck words
+  pub done : status ≡ 0 → IsCommand words
+  pub words_refused : status ≡ 1 → ¬ IsCommand words
+  pub scenario_refused : status ≡ 2 → IsRun words ⊎ IsCheck words
+  pub source_failed : status ≡ 3 → IsRun words ⊎ IsCheck words
+  pub history_full : status ≡ 6 → IsRun words ⊎ IsDrill words
+  pub illegal : status ≡ 8 → IsCheck words
+  pub no_trace : status ≡ 9 → IsCheck words
   pub generated : IsGen words → (status ≡ 0) ⊎ (status ≡ 4) ⊎ (status ≡ 5)
   pub drilled : IsDrill words → (status ≡ 0) ⊎ (status ≡ 4) ⊎ (status ≡ 5) ⊎ (status ≡ 6)
 

@@ -11,7 +11,7 @@ use Rattle.atomic_table.specs.Table.{State, Me, step, keeps, Allows, Splits, Joi
 use Rattle.atomic_table.proofs.Lists.{at_set, at_snoc}
 use Rattle.e3_turn.specs.declared.view.View.{View}
 use Rattle.e3_turn.specs.Chronicles.{count_of, longer, IsForeign, ExtendsByOthers, LongerExtends}
-use Rattle.e3_turn.specs.Rule.{total, waiting, turning, has_ticket, newcomer, nobody, choosing, kept_part, split_part, joined, PassFits, Home, HoldsAt, Holds}
+use Rattle.e3_turn.specs.Rule.{total, waiting, turning, has_ticket, newcomer, nobody, choosing, kept_part, dealt_part, joined, PassFits, Home, HoldsAt, Holds}
 use Rattle.e3_turn.specs.Steps.{chose, learned, Rests}
 use Rattle.e3_turn.proofs.Totals.{total_set, total-append, total_some, count_of-append, count_of-without, length-without, count_of_self, length-down_from}
 use Rattle.e3_turn.proofs.Prefixes.{all_front, all_back, two_prefixes}
@@ -90,14 +90,14 @@ module _ {X M : Type 0} (marks : X → List M) (belongs : M → ℕ → Bool) (l
       )
 
   pub cuts : (id : ℕ) (v : View M) → v.waits ≡ false → v.has_turn ≡ false → 0 < count_of v.chosen v.owners → 1 < length v.owners
-      → Splits (Holds marks belongs last) id v (kept_part v) (split_part v)
+      → Splits (Holds marks belongs last) id v (kept_part v) (dealt_part v)
   cuts id v rests idle has more s kept at =
       let served = kept.0 in
       let drawn = kept.1 in
       let chronicle = kept.2 in
       let k = kept.3 in
       let left : View M = kept_part v in
-      let right : View M = split_part v in
+      let right : View M = dealt_part v in
       let f = k.fits id v at in
       let owned : 0 < length v.owners = omega arith in
       let sum = λ (f : View M → ℕ) (e : f left + f right ≡ f v). (let r = total_set f s.views id v left at in let a = total-append f (set s.views id left) (right ∷ []) in let b : total f (right ∷ []) ≡ f right + 0 = refl in let q : total f (set s.views id left ++ right ∷ []) ≡ total f s.views = omega arith in q) in
@@ -301,15 +301,15 @@ module _ {X M : Type 0} (marks : X → List M) (belongs : M → ℕ → Bool) (l
       first_of (o ∷ os) h = (o, let t = count_of_self o in omega arith)
 
   pub cuts_as : (id : ℕ) (me now : MeOf) (o : ℕ) → Rests me → now ≡ (choosing me.0 o, me.1) → 0 < count_of o me.0.owners → 1 < length me.0.owners
-      → Splits (Holds marks belongs last) id now.0 (kept_part now.0) (split_part now.0)
+      → Splits (Holds marks belongs last) id now.0 (kept_part now.0) (dealt_part now.0)
   cuts_as id me now o rests is has more =
-      subst (λ (m : MeOf). Splits (Holds marks belongs last) id m.0 (kept_part m.0) (split_part m.0)) (sym is) (cuts id (choosing me.0 o) rests.ticket rests.turn has more)
+      subst (λ (m : MeOf). Splits (Holds marks belongs last) id m.0 (kept_part m.0) (dealt_part m.0)) (sym is) (cuts id (choosing me.0 o) rests.ticket rests.turn has more)
 
   pub rests_cut : (me now left right : MeOf) (o : ℕ) → Rests me → now ≡ (choosing me.0 o, me.1) → 0 < count_of o me.0.owners → 1 < length me.0.owners
-      → left ≡ (kept_part now.0, now.1) → right ≡ (split_part now.0, []) → Rests left × Rests right
+      → left ≡ (kept_part now.0, now.1) → right ≡ (dealt_part now.0, []) → Rests left × Rests right
   rests_cut me now left right o rests is has more l r =
       let l' : left ≡ (kept_part (choosing me.0 o), me.1) = l ∙ ap (λ (m : MeOf). (kept_part m.0, m.1)) is in
-      let r' : right ≡ (split_part (choosing me.0 o), []) = r ∙ ap (λ (m : MeOf). (split_part m.0, [])) is in (
+      let r' : right ≡ (dealt_part (choosing me.0 o), []) = r ∙ ap (λ (m : MeOf). (dealt_part m.0, [])) is in (
         subst (λ (m : MeOf). Rests m) (sym l') record { carried = rests.carried; ticket = rests.ticket; turn = rests.turn; owned = let z = length-without o me.0.owners has in omega arith },
         subst (λ (m : MeOf). Rests m) (sym r') record { carried = refl; ticket = rests.ticket; turn = rests.turn; owned = omega arith },
       )

@@ -59,7 +59,7 @@ module _ {X M : Type 0} (belongs : M → ℕ → Bool) where
 
 module _ {X M : Type 0} where
   -- a pass gave one of its owners to a part of its own, and both have seen what it had seen
-  pub record HasSplit (lock : TableId) (owner : ℕ) (old new part : PassOf X M) : Type 0 where
+  pub record HasDealt (lock : TableId) (owner : ℕ) (old new part : PassOf X M) : Type 0 where
     pub idle : IsIdle lock new × IsIdle lock part
     pub owners : (owners_of new ≡ without owner (owners_of old)) × (owners_of part ≡ owner ∷ [])
     pub last : (last_of new ≡ last_of old) × (last_of part ≡ last_of old)

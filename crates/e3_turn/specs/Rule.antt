@@ -51,8 +51,8 @@ module _ {M : Type 0} where
   kept_part v = record v { owners = without v.chosen v.owners }
 
   -- the pass of the owner that was given away
-  abbrev pub split_part : View M → View M
-  split_part v = record v { owners = v.chosen ∷ []; first_owners = []; first_seen = []; second_owners = []; second_seen = [] }
+  abbrev pub dealt_part : View M → View M
+  dealt_part v = record v { owners = v.chosen ∷ []; first_owners = []; first_seen = []; second_owners = []; second_seen = [] }
 
   abbrev pub joined : View M → View M → View M
   joined v w = record v { owners = v.owners ++ w.owners; seen = longer v.seen w.seen; first_owners = v.owners; first_seen = v.seen; second_owners = w.owners; second_seen = w.seen }

@@ -2,7 +2,7 @@
 ghost use Rattle.std.specs.Prelude.{◌≡◌, ◌%◌, ◌^◌, ◌<◌, length, IfOk, [], ◌∷◌, Some, MatchOption};
 ghost use Rattle.e3_turn.specs.Chronicles.{down_from};
 ghost use Rattle.e3_turn.specs.Steps.{Rests, Took, Waits};
-ghost use Rattle.e3_turn.specs.Passes.{GrewByOthers, GrewByOwners, HasJoined, HasSplit, HasTurn, IsIdle, Owns, OwnsAll, SameOwners, last_of, owners_of, seen_by};
+ghost use Rattle.e3_turn.specs.Passes.{GrewByOthers, GrewByOwners, HasJoined, HasDealt, HasTurn, IsIdle, Owns, OwnsAll, SameOwners, last_of, owners_of, seen_by};
 
 use crate::chronicle::Chronicle;
 use crate::plays::{Chooses, Draws, GivesAway, Learns, Looks, PassesOn, PutsTogether};
@@ -215,7 +215,7 @@ impl<V: Chronicle + Drop> TurnLock<V> {
         requires idle { IsIdle self.now pass.old }
         requires owns { Owns pass.old owner }
         requires keeps { 1 < length (owners_of pass.old) }
-        ensures { HasSplit self.now owner pass.old pass.new result }
+        ensures { HasDealt self.now owner pass.old pass.new result }
     {
         self.table
             .shared

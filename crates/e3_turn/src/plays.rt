@@ -1,5 +1,5 @@
 // What each kind of step tells the pass that makes it. These types are for the proofs alone.
-ghost use Rattle.e3_turn.specs.Rule.{joined, kept_part, nobody, split_part};
+ghost use Rattle.e3_turn.specs.Rule.{joined, kept_part, nobody, dealt_part};
 ghost use Rattle.e3_turn.specs.Steps.{chose, drew, learned, looked, passed_on};
 
 use crate::chronicle::Chronicle;
@@ -54,7 +54,7 @@ pub struct GivesAway;
 impl<M> Split<View<M>> for GivesAway {
     ghost left = { kept_part };
 
-    ghost right = { split_part };
+    ghost right = { dealt_part };
 }
 
 /// Puts two passes together.

@@ -2,7 +2,7 @@
 ghost use Rattle.std.specs.Prelude.{◌≡◌, ◌<◌, ◌≤◌, ◌++◌, ◌∷◌, ◌↔◌, [], ℕ, List as Items, length, true, IfOk, OnOk, OnErr, Err};
 ghost use Rattle.e3_laws.specs.local.Others.{numbered_on};
 ghost use Rattle.e3_turn.specs.Chronicles.{down_from};
-ghost use Rattle.e3_turn.specs.Passes.{GrewByOthers, GrewByOwners, HasJoined, HasSplit, HasTurn, IsIdle, Owns, OwnsAll, SameOwners, last_of, owners_of, seen_by};
+ghost use Rattle.e3_turn.specs.Passes.{GrewByOthers, GrewByOwners, HasJoined, HasDealt, HasTurn, IsIdle, Owns, OwnsAll, SameOwners, last_of, owners_of, seen_by};
 ghost use Rattle.e3_types.specs.declared.entries.Act.TheVariants as act;
 ghost use Rattle.e3_wire.specs.Marks.{belongs, entries_of, last_owner, most_of, places_for, scenario_of, used_of};
 ghost use Rattle.e3_wire.specs.Wires.{HasNoPlaceFor, IsPlayed, MayEnterBehind, first_few};
@@ -176,7 +176,7 @@ impl Wire {
         requires idle { IsIdle self.now pass.old }
         requires owns { Owns pass.old owner }
         requires keeps { 1 < length (owners_of pass.old) }
-        ensures { HasSplit self.now owner pass.old pass.new result }
+        ensures { HasDealt self.now owner pass.old pass.new result }
     {
         self.lock.split(pass, owner)
     }

@@ -7,11 +7,12 @@ use Rattle.e3_types.specs.Sets.{ascends}
 pub lt_from : (a b : ℕ) → nat_lt a b ≡ true → a < b
 lt_from a b is = grind (arith, common_steps, is)
 
-pub lt_is : (a b : ℕ) → a < b → nat_lt a b ≡ true
+lt_is : (a b : ℕ) → a < b → nat_lt a b ≡ true
 lt_is a b is = grind (arith, common_steps, is)
 
-pub split : (low x : ℕ) (xs : List ℕ) → ascends low (x ∷ xs) ≡ true → (nat_lt low x ≡ true) × (nat_le x 64 ≡ true) × (ascends x xs ≡ true)
-split low x xs is =
+-- the first one is above the bound and at most 64, and the others ascend from it
+pub ascends_parts : (low x : ℕ) (xs : List ℕ) → ascends low (x ∷ xs) ≡ true → (nat_lt low x ≡ true) × (nat_le x 64 ≡ true) × (ascends x xs ≡ true)
+ascends_parts low x xs is =
     let one = and_parts (nat_lt low x && nat_le x 64) (ascends x xs) is in
     let two = and_parts (nat_lt low x) (nat_le x 64) one.0 in
     (two.0, two.1, one.1)
@@ -20,7 +21,7 @@ split low x xs is =
 ascends_lower : (low n : ℕ) (xs : List ℕ) → low ≤ n → ascends n xs ≡ true → ascends low xs ≡ true
 ascends_lower low n [] less is = refl
 ascends_lower low n (x ∷ xs) less is =
-    let one = split n x xs is in
+    let one = ascends_parts n x xs is in
     let high : n < x = lt_from n x one.0 in
     rw (lt_is low x (omega (arith, less, high)), one.1) one.2
 
@@ -29,7 +30,7 @@ ascends_filter p low [] is = refl
 ascends_filter p low (x ∷ xs) is = by (ascends_filter p x xs one.2) (p x) refl
   where
     one : (nat_lt low x ≡ true) × (nat_le x 64 ≡ true) × (ascends x xs ≡ true)
-    one = split low x xs is
+    one = ascends_parts low x xs is
 
     by : ascends x (filter p xs) ≡ true → (b : Bool) → p x ≡ b → ascends low (filter p (x ∷ xs)) ≡ true
     by rest true here = rw (here, one.0, one.1) rest

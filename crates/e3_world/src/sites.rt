@@ -1,8 +1,8 @@
 // The sets of all sites.
-ghost use Rattle.std.specs.Prelude.{◌≡◌, ◌≤◌, IfOk};
+ghost use Rattle.std.specs.Prelude.{◌≡◌, ◌≤◌, length};
 ghost use Rattle.e3_world.specs.Packets.{all_sites, sites_to};
 
-use e3_types::{NoMemory, Scenario, SiteSet};
+use e3_types::{Scenario, SiteSet};
 
 /// All sites up to this one.
 #[tactic(auto, using(crate::proofs::AllSites::next_site))]
@@ -17,13 +17,10 @@ pub fn sites_to(count: u32) -> SiteSet
     sites
 }
 
-/// All sites of the scenario. More than 64 are no set of sites, and no memory is enough for them.
-pub fn all_sites(scenario: &Scenario) -> Result<SiteSet, NoMemory>
-    ensures { IfOk result (λ sites. sites ≡ all_sites scenario.now) }
+/// All sites of the scenario. More than 64 are no set of sites.
+pub fn all_sites(scenario: &Scenario) -> SiteSet
+    requires { length scenario.now.weights ≤ 64 }
+    ensures { result ≡ all_sites scenario.now }
 {
-    let count = scenario.weights.len();
-    if count > 64 {
-        return Err(NoMemory);
-    }
-    Ok(sites_to(count as u32))
+    sites_to(scenario.weights.len() as u32)
 }

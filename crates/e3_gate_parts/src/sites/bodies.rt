@@ -1,5 +1,5 @@
 // The steps of a site by its tables, beside those that the definitions make of its log and of its steps so far.
-ghost use Rattle.std.specs.Prelude.{◌≡◌, IfOk, OnOk};
+ghost use Rattle.std.specs.Prelude.{◌≡◌, ◌<◌, IfOk, OnOk, length};
 ghost use Rattle.e3_site.specs.SiteView.{IsPlanOf, Stands, planned_step, risen_with};
 ghost use Rattle.e3_world.specs.declared.lives.Incarnation.{Incarnation};
 
@@ -45,7 +45,9 @@ fn lines_by_past(
     rose: &[Record],
     since: &[SiteStep],
     input: &Input,
-) -> Page {
+) -> Page
+    requires { length since.now < 4294967295 }
+{
     let mut lines = Page::new(alloc);
     match step_of(alloc, weights, owner, rose, since, input) {
         Ok(made) => lines.trace(slice::from_ref(&entry_of(owner, input, made))),
@@ -86,7 +88,8 @@ fn planned(
     input: &Input,
 ) -> Result<Plan, NoMemory>
     ghost now: { Incarnation }
-    requires { Stands now site.now }
+    requires stands { Stands now site.now }
+    requires few { length now.since < 4294967295 }
     ensures made { IfOk result (λ plan. plan.step ≡ planned_step now site.now input.now) }
     ensures of_site { IfOk result (λ plan. IsPlanOf plan site.now) }
 {
@@ -101,6 +104,9 @@ fn open_by_past(
     since: &[SiteStep],
 ) -> Result<List<Txn>, NoMemory> {
     let life = life_of(alloc, rose, since)?;
+    if life.steps.len() > 4294967295 {
+        return Err(NoMemory);
+    }
     open_in(alloc, site, &life)
 }
 
@@ -140,7 +146,8 @@ fn push_step(
     since: &mut List<SiteStep>,
     input: &Input,
 ) -> Result<(), NoMemory>
-    requires { Stands (record { rose = rose.now; since = since.old }) site.old }
+    requires stand { Stands (record { rose = rose.now; since = since.old }) site.old }
+    requires few { length since.old < 4294967295 }
     ensures { OnOk result (Stands (record { rose = rose.now; since = since.new }) site.new) }
 {
     let plan = planned(site, rose, since.as_slice(), input)?;
@@ -171,6 +178,9 @@ fn push_steps(
     let owner = site.site();
     let mut since = List::new(alloc);
     for entry in history {
+        if since.len() >= 4294967295 {
+            return Err(NoMemory);
+        }
         if let Some(input) = input_of(owner, entry) {
             let by_past = lines_by_past(alloc, weights, owner, rose, since.as_slice(), input);
             push_step(alloc, page, &by_past, site, rose, &mut since, input)?;

@@ -1,4 +1,6 @@
 // What is read off the log and the steps of a site, of each transaction that was begun.
+ghost use Rattle.std.specs.Prelude.{◌<◌, length};
+
 use crate::texts::push_count;
 use e3_commit::Acks;
 use e3_elect::Election;
@@ -34,14 +36,18 @@ fn push_logged(page: &mut Page, t: &Txn, log: &[Record]) {
 }
 
 // Adds how many operations of a transaction were issued and done, and how many reasons are kept for its end.
-fn push_operations(alloc: Global, page: &mut Page, site: u32, t: &Txn, steps: &[Moment]) {
+fn push_operations(alloc: Global, page: &mut Page, site: u32, t: &Txn, steps: &[Moment])
+    requires { length steps.now < 4294967295 }
+{
     push_count(page, ", issued ", issued(alloc, t, steps));
     push_count(page, ", done ", done(alloc, site, t, steps));
     push_count(page, ", kept reasons ", kept_reason(alloc, t, steps));
 }
 
 // Adds the operation that is not answered.
-fn push_unanswered(alloc: Global, page: &mut Page, t: &Txn, life: &Life) {
+fn push_unanswered(alloc: Global, page: &mut Page, t: &Txn, life: &Life)
+    requires { length life.now.steps < 4294967295 }
+{
     match unanswered(alloc, t, life.log.as_slice(), life.steps.as_slice()) {
         Ok(Some(n)) => page.labelled(", unanswered ", u64::from(n)),
         Ok(None) => page.text(", all answered"),
@@ -50,7 +56,9 @@ fn push_unanswered(alloc: Global, page: &mut Page, t: &Txn, life: &Life) {
 }
 
 // Adds what is expected of a site.
-fn push_expected(alloc: Global, page: &mut Page, site: u32, t: &Txn, life: &Life, other: u32) {
+fn push_expected(alloc: Global, page: &mut Page, site: u32, t: &Txn, life: &Life, other: u32)
+    requires { length life.now.steps < 4294967295 }
+{
     let Ok(of) = expected(alloc, site, life.inc, t, life.steps.as_slice(), other) else {
         return page.lack();
     };
@@ -69,7 +77,9 @@ fn push_heard(page: &mut Page, e: &Election) {
 }
 
 // Adds what an elector has heard, where an election is in progress.
-fn push_election(alloc: Global, page: &mut Page, site: u32, t: &Txn, life: &Life) {
+fn push_election(alloc: Global, page: &mut Page, site: u32, t: &Txn, life: &Life)
+    requires { length life.now.steps < 4294967295 }
+{
     match election_in_progress(alloc, site, life.inc, t, life.steps.as_slice()) {
         Ok(Some(e)) => push_heard(page, &e),
         Ok(None) => {}
@@ -101,7 +111,9 @@ fn push_votes(page: &mut Page, site: u32, t: &Txn, steps: &[Moment]) {
 }
 
 // Adds all that is read of a transaction.
-fn push_of(alloc: Global, page: &mut Page, site: u32, t: &Txn, life: &Life) {
+fn push_of(alloc: Global, page: &mut Page, site: u32, t: &Txn, life: &Life)
+    requires { length life.now.steps < 4294967295 }
+{
     let steps = life.steps.as_slice();
     push_operations(alloc, page, site, t, steps);
     push_unanswered(alloc, page, t, life);
@@ -114,7 +126,9 @@ fn push_of(alloc: Global, page: &mut Page, site: u32, t: &Txn, life: &Life) {
 }
 
 // Adds the lock that a transaction holds on a name.
-fn push_held(alloc: Global, page: &mut Page, site: u32, t: &Txn, life: &Life, name: &Name) {
+fn push_held(alloc: Global, page: &mut Page, site: u32, t: &Txn, life: &Life, name: &Name)
+    requires { length life.now.steps < 4294967295 }
+{
     let log = life.log.as_slice();
     match holds(alloc, site, t, name, log, life.steps.as_slice()) {
         Ok(Some(Mode::Exclusive)) => page.text(", holds an exclusive lock\n"),
@@ -135,7 +149,9 @@ fn first_txn() -> Txn {
 }
 
 // Adds the row of a name, how many locks votes have on it, and the lock that the first transaction holds.
-fn push_row(alloc: Global, page: &mut Page, site: u32, life: &Life, table: &[Row], name: &Name) {
+fn push_row(alloc: Global, page: &mut Page, site: u32, life: &Life, table: &[Row], name: &Name)
+    requires { length life.now.steps < 4294967295 }
+{
     page.bytes(name.bytes());
     page.text(" is ");
     page.answer(&row_value(name, table));
@@ -145,7 +161,9 @@ fn push_row(alloc: Global, page: &mut Page, site: u32, life: &Life, table: &[Row
 }
 
 // Adds the row of each of three names, and the table.
-fn push_names(alloc: Global, page: &mut Page, site: u32, life: &Life, table: &[Row]) {
+fn push_names(alloc: Global, page: &mut Page, site: u32, life: &Life, table: &[Row])
+    requires { length life.now.steps < 4294967295 }
+{
     for text in [b"a", b"b", b"c"] {
         match Name::new(text) {
             Some(name) => push_row(alloc, page, site, life, table, &name),
@@ -156,19 +174,19 @@ fn push_names(alloc: Global, page: &mut Page, site: u32, life: &Life, table: &[R
 }
 
 // Adds the call that comes next.
-fn push_next(page: &mut Page, life: &Life) {
-    match next_call(life.inc, life.steps.as_slice()) {
-        Ok(next) => {
-            page.labelled(", next call ", u64::from(next.inc));
-            page.labelled(" ", u64::from(next.seq));
-        }
-        Err(NoMemory) => page.lack(),
-    }
+fn push_next(page: &mut Page, life: &Life)
+    requires { length life.now.steps < 4294967295 }
+{
+    let next = next_call(life.inc, life.steps.as_slice());
+    page.labelled(", next call ", u64::from(next.inc));
+    page.labelled(" ", u64::from(next.seq));
     page.text("\n");
 }
 
 // Adds what a life says of no single transaction.
-fn push_life(alloc: Global, page: &mut Page, site: u32, life: &Life) {
+fn push_life(alloc: Global, page: &mut Page, site: u32, life: &Life)
+    requires { length life.now.steps < 4294967295 }
+{
     let (log, steps) = (life.log.as_slice(), life.steps.as_slice());
     page.labelled(" incarnation ", u64::from(life.inc));
     page.labelled(", log ", life.log.len());
@@ -186,7 +204,9 @@ fn push_read(
     life: &Life,
     log: &[Record],
     history: &[Entry],
-) {
+)
+    requires { length life.now.steps < 4294967295 }
+{
     push_life(alloc, page, site, life);
     for entry in history {
         if let [Told::Began { txn }] = told_of(entry) {
@@ -216,8 +236,10 @@ fn push_incarnation(
     page.labelled(" of incarnation ", u64::from(logged_inc(log.as_slice())));
     page.text(",");
     match life_of(alloc, rose, since) {
-        Ok(life) => push_read(alloc, page, site, &life, log.as_slice(), history),
-        Err(NoMemory) => page.lack(),
+        Ok(life) if life.steps.len() < 4294967295 => {
+            push_read(alloc, page, site, &life, log.as_slice(), history);
+        }
+        _ => page.lack(),
     }
 }
 

@@ -17,6 +17,7 @@ ghost use Rattle.e3_world.specs.Packets.{sent as sent_in};
 use crate::audit::auditor::Auditor;
 use crate::audit::falling::leave;
 use crate::audit::seat::{Being, Seat};
+use crate::counts::count_on;
 use crate::{Prefix, are_numbered, same_list};
 use e3_net::Net;
 use e3_site::{Plan, Site};
@@ -47,16 +48,17 @@ fn is_as_planned(plan: &Plan, step: &SeenStep<'_>) -> bool
 /// What the input makes the site do that this value stands for.
 pub(crate) fn plan_at(
     up: &Site,
-    _prefix: &Prefix<'_>,
+    prefix: &Prefix<'_>,
     _site: u32,
     input: &Input,
 ) -> Result<Plan, NoMemory>
     ghost now: { Incarnation }
-    requires stands { StandsFor _prefix.now.scenario.now _prefix.now.entries.now _site up.now }
-    requires now { now ≡ incarnation_of (moves_of _prefix.now.scenario.now _prefix.now.entries.now _site) }
-    ensures made { IfOk result (λ plan. plan.step ≡ step_kept input.now (made_by _prefix.now.scenario.now _prefix.now.entries.now _site input.now)) }
+    requires stands { StandsFor prefix.now.scenario.now prefix.now.entries.now _site up.now }
+    requires now { now ≡ incarnation_of (moves_of prefix.now.scenario.now prefix.now.entries.now _site) }
+    ensures made { IfOk result (λ plan. plan.step ≡ step_kept input.now (made_by prefix.now.scenario.now prefix.now.entries.now _site input.now)) }
     ensures of_site { IfOk result (λ plan. IsPlanOf plan up.now) }
 {
+    count_on(prefix.entries.len() as u64)?;
     up.plan(input)
 }
 

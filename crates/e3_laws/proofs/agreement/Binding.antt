@@ -134,7 +134,7 @@ attempt_in : (sc : Scenario) (h : List Entry) (t : Txn) (x n : ℕ) (d : Dir) (k
 attempt_in sc h t x n d k has =
     attempt_noted n d (k.now.log x) (subst (λ l. IsIn (Attempt n d) l) (sym (k.same x)) (attempt_to t n d (log_of sc h x) (in_from_contains (log_of sc h x) (log.Attempt t n d) has)))
 
-attempt_out : (sc : Scenario) (h : List Entry) (t : Txn) (x n : ℕ) (d : Dir) (k : Lifted sc h t) → IsIn (Attempt n d) (k.now.log x) → Has sc h x (log.Attempt t n d)
+pub attempt_out : (sc : Scenario) (h : List Entry) (t : Txn) (x n : ℕ) (d : Dir) (k : Lifted sc h t) → IsIn (Attempt n d) (k.now.log x) → Has sc h x (log.Attempt t n d)
 attempt_out sc h t x n d k noted =
     contains_from_in (log_of sc h x) (log.Attempt t n d) (attempt_from t n d (log_of sc h x) (subst (λ l. IsIn (Attempt n d) l) (k.same x) (in_erased (Attempt n d) (k.now.log x) noted)))
 

@@ -150,7 +150,7 @@ refused_said a u cancels keeps = by (decision u (log_now a nothing)) (kept_reaso
             in_left_nil x (z ∷ zs) (inr h) = inr (in_left_nil x zs h)
 
 -- a reply with a final state rests on a decision in some log
-final_somewhere : (h : Here) (n : ℕ) (d : Dir) (r : Reply) → Stands h → Replied h.before.sent (own_log h) h.at.site n r → r.stood ≡ Final d → (y : ℕ) × IsIn (Decision d) (h.before.log y)
+pub final_somewhere : (h : Here) (n : ℕ) (d : Dir) (r : Reply) → Stands h → Replied h.before.sent (own_log h) h.at.site n r → r.stood ≡ Final d → (y : ℕ) × IsIn (Decision d) (h.before.log y)
 final_somewhere h n d r s (inl came) is =
     (r.site, subst (λ z. Backs z r.tried (h.before.log r.site)) is (s.kept.letters (letter r.site h.at.site (Report n r.stood r.tried)) came).2)
 final_somewhere h n d r s (inr own) is =
@@ -158,7 +158,7 @@ final_somewhere h n d r s (inr own) is =
     (h.at.site, subst (λ z. Backs z (attempt (before_join n (own_log h))) (own_log h)) state (before_join_backs n (own_log h) (s.kept.orderly h.at.site)))
 
 -- where a decision that another site made may not be recorded, it is recorded already
-stands_already : (h : Here) (d : Dir) → Stands h → has_site h.txn.sites h.at.site ≡ true → (y : ℕ) × IsIn (Decision d) (h.before.log y) → may_decide h.at h.txn d nothing ≡ false
+pub stands_already : (h : Here) (d : Dir) → Stands h → has_site h.txn.sites h.at.site ≡ true → (y : ℕ) × IsIn (Decision d) (h.before.log y) → may_decide h.at h.txn d nothing ≡ false
     → IsIn (log.Decision h.txn d) (log_now h.at nothing)
 stands_already h d s member there no_more = by d there no_more
   where

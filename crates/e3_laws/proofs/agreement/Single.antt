@@ -37,7 +37,7 @@ use Rattle.e3_laws.proofs.agreement.Saying.{one_if, ReportsOnce, count_cons, cou
 use Rattle.e3_laws.proofs.agreement.Telling.{made_lives_tell, step_tells, sends_own}
 
 -- the records of a site in such a trail are in order
-made_orderly : (sc : Scenario) (t : Txn) (x : ℕ) (trail : List Move) → IsMade sc trail → Orderly (face t (log_by (moves_at x trail)))
+pub made_orderly : (sc : Scenario) (t : Txn) (x : ℕ) (trail : List Move) → IsMade sc trail → Orderly (face t (log_by (moves_at x trail)))
 made_orderly sc t x trail made =
     let kept = law (party_of sc.weights t) (situation_of (marks_of sc t trail)) (majorities_overlap sc.weights t) (made_ok sc t trail made).reach in
     subst Orderly (faces sc t x trail made) (orderly_erased (log_of x (marks_of sc t trail)) (kept.orderly x))

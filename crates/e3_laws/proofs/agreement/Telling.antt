@@ -123,7 +123,7 @@ life_tells sc x life i made old new m k = by m (in_parts m life.steps (this ∷ 
     by m (inr (inl same)) e j s says = new.told e (subst (λ (z : Moment). IsIn e z.told) same j) s says
     by m (inr (inr q)) e j s says = absurd q
 
-life_steps : (sc : Scenario) (x : ℕ) (mine : List Move) (i : Input)
+pub life_steps : (sc : Scenario) (x : ℕ) (mine : List Move) (i : Input)
     → life_at (mine ++ step_move sc x mine i ∷ []) ≡ life_by (life_at mine) (site_step i (step_of sc.weights x (incarnation_of mine) i))
 life_steps sc x mine i = ap life_of (incarnation_push mine (step_move sc x mine i)) ∙ life_push (incarnation_of mine) (site_step i (step_of sc.weights x (incarnation_of mine) i))
 

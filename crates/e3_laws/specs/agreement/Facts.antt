@@ -114,6 +114,11 @@ abbrev pub ElectorsAreOne : Type 0
 ElectorsAreOne = (sc : Scenario) (h : List Entry) (t : Txn) (n s u : ℕ) → IsGiven sc → IsLegal sc h →
     HasQuorumOfReports sc h t n s → HasQuorumOfReports sc h t n u → s ≡ u
 
+-- A site is asked for an attempt of a number above 1 only by one that it reported to for that number.
+abbrev pub AskedHaveReported : Type 0
+AskedHaveReported = (sc : Scenario) (h : List Entry) (t : Txn) (n : ℕ) (d : Dir) (packet : Packet) → IsGiven sc → IsLegal sc h →
+    Contains (sent h) packet → packet.msg ≡ msg.Pre t n d → 2 ≤ n → HasReportedTo h t n packet.to packet.«from»
+
 -- A site attempts the number that it joined last, or 1, and each number once.
 abbrev pub AttemptsFollowJoins : Type 0
 AttemptsFollowJoins = (sc : Scenario) (h : List Entry) (t : Txn) (s n : ℕ) (d : Dir) (before : List Record) → IsGiven sc → IsLegal sc h →

@@ -1,5 +1,5 @@
 -- What the tables of a site stand for.
-use Rattle.std.specs.Prelude.{◌≡◌, ◌==◌, ◌&&◌, ◌++◌, ◌∷◌, [], ℕ, Bool, true, List, Option, Some, None, length}
+use Rattle.std.specs.Prelude.{◌≡◌, ◌<◌, ◌==◌, ◌&&◌, ◌++◌, ◌∷◌, [], ℕ, Bool, true, List, Option, Some, None, length}
 use Rattle.std.specs.Option.{IsSome}
 use Rattle.e3_types.specs.declared.entries.Input.{Input}
 use Rattle.e3_types.specs.declared.records.Record.{Record}
@@ -49,9 +49,10 @@ pub record TablesStand (site : ℕ) (life : Life) (tables : Tables) : Type 0 whe
   pub names_stand : NamesStand site tables.names life
   pub opens_stand : OpensStand site tables.opens life
 
--- what a reader has is read at this place
+-- what a reader has is read at this place, where 32 bits count one step more
 pub record ReadsAt (place : At) (weights : List ℕ) (cards : Cards) (names : Names) (i : Input) : Type 0 where
   pub weights_are : place.weights ≡ weights
   pub input_is : place.input ≡ i
+  pub few : length place.life.steps < 4294967295
   pub cards_stand : CardsStand place.site cards place.life
   pub names_stand : NamesStand place.site names place.life

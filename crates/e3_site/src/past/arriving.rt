@@ -1,9 +1,9 @@
 // The operation that a step takes up, where it did not come before.
-ghost use Rattle.std.specs.Prelude.{◌≡◌, IfOk};
+ghost use Rattle.std.specs.Prelude.{◌≡◌, ◌<◌};
 ghost use Rattle.e3_world.specs.declared.lives.At.{At};
 ghost use Rattle.e3_world.specs.declared.lives.SiteStep.{SiteStep};
 ghost use Rattle.e3_cards.specs.Seeing.{seen_state};
-ghost use Rattle.e3_cards.specs.Tables.{CardsStand};
+ghost use Rattle.e3_cards.specs.Tables.{AreCountable, CardsStand};
 ghost use Rattle.e3_places.specs.Standing.{fresh_of};
 ghost use Rattle.e3_readings.specs.Bringing.{is_new_to, issued_before};
 ghost use Rattle.e3_site.specs.past.Fresh.{is_new, fresh_as};
@@ -11,13 +11,14 @@ ghost use Rattle.e3_site.specs.past.Fresh.{is_new, fresh_as};
 use e3_cards::{Card, Cards, blank, card_or, seen_state};
 use e3_places::Standing;
 use e3_readings::{brought, is_new_to};
-use e3_types::{Input, NoMemory, Told};
+use e3_types::{Input, Told};
 use e3_world::{Asked, found_by_bits};
 use std::alloc::Global;
 
 // How many operations of the transaction of a Do input were issued before.
 fn issued_before(alloc: Global, cards: &Cards, input: &Input) -> u64
-    ensures { (a : At) → CardsStand a.site cards.now a.life → result ≡ issued_before input.now a.life.steps }
+    ensures count { (a : At) → CardsStand a.site cards.now a.life → result ≡ issued_before input.now a.life.steps }
+    ensures few { AreCountable cards.now → result < 4294967295 }
 {
     match input {
         Input::Do { txn, .. } => cards.issued_count(alloc, txn),
@@ -51,18 +52,19 @@ fn fresh_as(alloc: Global, cards: &Cards, q: Asked) -> Option<Standing>
 }
 
 /// The operation that a step with this input takes up, where these events were told in it, if it did not come before and its
-/// transaction is in q, with whether it was answered before. NoMemory comes also where its number would pass 32 bits.
+/// transaction is in q, with whether it was answered before.
 pub(crate) fn fresh(
     alloc: Global,
     cards: &Cards,
     input: &Input,
     events: &[Told],
-) -> Result<Option<Standing>, NoMemory>
-    ensures { IfOk result (λ new. (a : At) (s : SiteStep) → CardsStand a.site cards.now a.life → s.input ≡ input.now → s.told ≡ events.now → new ≡ fresh_of a.site a.life s) }
+) -> Option<Standing>
+    requires { AreCountable cards.now }
+    ensures { (a : At) (s : SiteStep) → CardsStand a.site cards.now a.life → s.input ≡ input.now → s.told ≡ events.now → result ≡ fresh_of a.site a.life s }
 {
     let count = issued_before(alloc, cards, input);
-    match brought(cards.site, count, input, events)? {
-        Some(q) => Ok(fresh_as(alloc, cards, q)),
-        None => Ok(None),
+    match brought(cards.site, count, input, events) {
+        Some(q) => fresh_as(alloc, cards, q),
+        None => None,
     }
 }

@@ -8,7 +8,7 @@ ghost use Rattle.e3_world.specs.Lives.{life_by};
 ghost use Rattle.e3_world.specs.Logs.{key_of, table_of, row_value};
 ghost use Rattle.e3_world.specs.Making.{grants_after, log_now};
 ghost use Rattle.e3_world.specs.Operations.{holders, queue, waiting};
-ghost use Rattle.e3_cards.specs.Tables.{CardsStand};
+ghost use Rattle.e3_cards.specs.Tables.{AreCountable, CardsStand};
 ghost use Rattle.e3_readings.specs.Requests.{lock_for};
 ghost use Rattle.e3_places.specs.Standing.{follow};
 ghost use Rattle.e3_places.specs.Keeping.{HasRoom};
@@ -73,11 +73,12 @@ pub(crate) fn grants_after(
     ghost a: { At }
     requires cards { CardsStand a.site cards.now a.life }
     requires names { NamesStand a.site names.now a.life }
+    requires countable { AreCountable cards.now }
     requires input { input.now ≡ a.input }
     requires follow { follow a.life.log made.now.records ≡ true }
     ensures { IfOk result (λ out. out ≡ grants_after a made.now) }
 {
-    let new = fresh(alloc, cards, input, made.told.as_slice())?;
+    let new = fresh(alloc, cards, input, made.told.as_slice());
     places::grants_after(alloc, &names.places, names.restless.as_slice(), &new, made)
 }
 
@@ -88,10 +89,11 @@ pub(crate) fn behind(
     names: &Names,
     step: &SiteStep,
 ) -> Result<NamesBehind, NoMemory>
+    requires { AreCountable cards.now }
     ensures { IfOk result (λ b. (a : At) → CardsStand a.site cards.now a.life → NamesStand a.site names.now a.life → follow a.life.log step.now.records ≡ true
         → AreBehind a.site names.now a.life step.now b) }
 {
-    let new = fresh(alloc, cards, &step.input, step.told.as_slice())?;
+    let new = fresh(alloc, cards, &step.input, step.told.as_slice());
     let changes = places::changes_of(
         alloc,
         &names.places,

@@ -9,7 +9,7 @@ ghost use Rattle.e3_world.specs.Items.{began_in, txn_of_record};
 ghost use Rattle.e3_world.specs.Lives.{life_by};
 ghost use Rattle.e3_world.specs.Logs.{is_undecided};
 ghost use Rattle.e3_cards.specs.Noting.{unstepped};
-ghost use Rattle.e3_cards.specs.Tables.{CardsStand};
+ghost use Rattle.e3_cards.specs.Tables.{AreCountable, CardsStand};
 ghost use Rattle.e3_readings.specs.Opens.{open_in};
 ghost use Rattle.e3_places.specs.Standing.{fresh_of};
 ghost use Rattle.e3_world.specs.Making.{decides};
@@ -129,9 +129,10 @@ fn add_arrived(
     step: &SiteStep,
     out: &mut Vec<Txn>,
 ) -> Result<(), NoMemory>
+    requires { AreCountable cards.now }
     ensures { IfOk result (λ u. (a : At) → CardsStand a.site cards.now a.life → out.new.items ≡ out.old.items ++ undecided_among a.life.log (fresh_txns (fresh_of a.site a.life step.now))) }
 {
-    let new = fresh(alloc, cards, &step.input, step.told.as_slice())?;
+    let new = fresh(alloc, cards, &step.input, step.told.as_slice());
     add_known(cards, &new, out)
 }
 
@@ -184,6 +185,7 @@ fn sift_by(r: &Record, txns: &mut Vec<Txn>)
 
 /// The transactions that a step adds to those that are open, by the cards before it. Want of memory is the only error.
 pub(crate) fn added(alloc: Global, cards: &Cards, step: &SiteStep) -> Result<Opens, NoMemory>
+    requires { AreCountable cards.now }
     ensures { IfOk result (λ more. (a : At) → CardsStand a.site cards.now a.life → AreAdded a.site a.life step.now more) }
 {
     let mut more = no_opens(alloc);

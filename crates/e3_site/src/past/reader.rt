@@ -1,5 +1,5 @@
 // The past of a site as its tables have it.
-ghost use Rattle.std.specs.Prelude.{◌≡◌, IfOk};
+ghost use Rattle.std.specs.Prelude.{◌≡◌, ◌<◌, IfOk, length};
 ghost use Rattle.e3_world.specs.declared.lives.At.{At as Place};
 ghost use Rattle.e3_world.specs.declared.lives.Incarnation.{Incarnation};
 ghost use Rattle.e3_world.specs.Lives.{life_of};
@@ -111,7 +111,7 @@ impl<'a, K: Whose> Past for Reader<'a, K> {
 
     fn unanswered(&self, t: &Txn, made: &Made) -> Result<Option<u32>, NoMemory> {
         let cards = self.cards;
-        cards.unanswered(self.alloc, t, made)
+        Ok(cards.unanswered(self.alloc, t, made))
     }
 
     fn is_awaited(&self, f: u32, t: &Txn, n: u32, made: &Made) -> Result<bool, NoMemory> {
@@ -178,12 +178,12 @@ impl<'a, K: Whose> Past for Reader<'a, K> {
         cards.round(t)
     }
 
-    fn begins(&self) -> Result<u32, NoMemory> {
+    fn begins(&self) -> u32 {
         let cards = self.cards;
-        Ok(cards.begins)
+        cards.begins
     }
 
-    fn next_call(&self) -> Result<Call, NoMemory> {
+    fn next_call(&self) -> Call {
         let cards = self.cards;
         cards.next_call()
     }
@@ -221,7 +221,8 @@ pub fn step_with(
     input: &Input,
 ) -> Result<Made, NoMemory>
     ghost now: { Incarnation }
-    requires { TablesStand _site (life_of now) tables.now }
+    requires stand { TablesStand _site (life_of now) tables.now }
+    requires few { length now.since < 4294967295 }
     ensures { IfOk result (λ made. made ≡ step_of weights.now _site now input.now) }
 {
     step_at_place::<Brand>(

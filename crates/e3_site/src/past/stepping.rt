@@ -2,6 +2,7 @@
 ghost use Rattle.std.specs.Prelude.{◌≡◌, ℕ, IfOk, OnOk, true};
 ghost use Rattle.e3_world.specs.declared.lives.Life.{Life};
 ghost use Rattle.e3_world.specs.Lives.{life_by};
+ghost use Rattle.e3_cards.specs.Tables.{AreCountable};
 ghost use Rattle.e3_places.specs.Standing.{follow};
 ghost use Rattle.e3_site.specs.past.Standing.{TablesStand};
 ghost use Rattle.e3_site.specs.past.Stepping.{ActAlike, HasRoom, IsMadeOf};
@@ -16,6 +17,7 @@ use std::alloc::Global;
 
 /// What a step makes of the tables. It reads them alone, and changes none.
 pub fn behind(alloc: Global, tables: &Tables, step: &SiteStep) -> Result<Behind, NoMemory>
+    requires { AreCountable tables.now.cards }
     ensures { IfOk result (IsMadeOf tables.now step.now) }
 {
     let cards = cards::changes(alloc, &tables.cards, step)?;

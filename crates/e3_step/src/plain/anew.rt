@@ -1,4 +1,6 @@
 // A past that is read anew each time.
+ghost use Rattle.std.specs.Prelude.{◌≡◌, ◌<◌, length};
+
 use crate::Past;
 use crate::plain::grants::grants_after;
 use crate::plain::reading::{
@@ -14,16 +16,39 @@ use e3_readings::{
 use e3_types::{Answer, Call, Dir, Grant, Input, List, Name, NoMemory, Refusal, Txn};
 use e3_world::{Asked, At, Expected, Made, Performed};
 use std::alloc::Global;
+use std::marker::Model;
 
-/// A place where a step is made, with its past read anew each time, and the allocator for that.
+/// A place where a step is made, with its past read anew each time, and the allocator for that. The incarnation made fewer
+/// steps than 32 bits count.
 #[derive(Drop)]
 pub struct Anew {
-    pub alloc: Global,
-    pub place: At,
+    alloc: Global,
+    place: At,
+}
+
+impl Model for Anew {
+    ghost use Rattle.std.specs.Prelude.{◌<◌, length};
+    ghost use Rattle.e3_world.specs.declared.lives.At.{At};
+
+    ghost Value = { At };
+
+    ghost view = { λ p. p.place };
+
+    ghost invariant = { λ p. length p.place.life.steps < 4294967295 };
+}
+
+impl Anew {
+    /// The place with what is read of its past.
+    pub fn new(alloc: Global, place: At) -> Anew
+        requires { length place.life.steps < 4294967295 }
+        ensures { result ≡ place }
+    {
+        Anew { alloc, place }
+    }
 }
 
 impl Past for Anew {
-    ghost at = { λ p. p.place };
+    ghost at = { λ p. p };
 
     fn alloc(&self) -> Global {
         self.alloc
@@ -165,11 +190,11 @@ impl Past for Anew {
         round_in_progress(self.place.site, t, self.place.life.steps.as_slice())
     }
 
-    fn begins(&self) -> Result<u32, NoMemory> {
+    fn begins(&self) -> u32 {
         begins(self.place.life.steps.as_slice())
     }
 
-    fn next_call(&self) -> Result<Call, NoMemory> {
+    fn next_call(&self) -> Call {
         next_call(self.place.life.inc, self.place.life.steps.as_slice())
     }
 }

@@ -1,5 +1,5 @@
 // Which requests a decision grants.
-ghost use Rattle.std.specs.Prelude.{◌≡◌, ◌++◌, IfOk};
+ghost use Rattle.std.specs.Prelude.{◌≡◌, ◌<◌, ◌++◌, IfOk, length};
 ghost use Rattle.e3_world.specs.Making.{names_of, asked_on, granted_on, granted, grants_after};
 
 use crate::plain::reading::{log_now, steps_now};
@@ -41,6 +41,7 @@ pub fn granted_on(
     asked: &[Asked],
     name: &Name,
 ) -> Result<List<Asked>, NoMemory>
+    requires { length a.now.life.steps < 4294967295 }
     ensures { IfOk result (λ out. out ≡ granted_on a.now made.now asked.now name.now) }
 {
     let log = log_now(alloc, a, made)?;
@@ -60,6 +61,7 @@ fn add_granted(
     name: &Name,
     out: &mut List<Asked>,
 ) -> Result<(), NoMemory>
+    requires { length a.now.life.steps < 4294967295 }
     ensures { IfOk result (λ u. out.new ≡ out.old ++ granted_on a.now made.now asked.now name.now) }
 {
     let here = granted_on(alloc, a, made, asked, name)?;
@@ -68,6 +70,7 @@ fn add_granted(
 
 /// The requests that are granted among those that wait, name by name.
 pub fn granted(alloc: Global, a: &At, made: &Made, asked: &[Asked]) -> Result<List<Asked>, NoMemory>
+    requires { length a.now.life.steps < 4294967295 }
     ensures { IfOk result (λ out. out ≡ granted a.now made.now asked.now) }
 {
     let names = names_of(alloc, asked)?;
@@ -80,6 +83,7 @@ pub fn granted(alloc: Global, a: &At, made: &Made, asked: &[Asked]) -> Result<Li
 
 /// The requests that are granted now, where a decision has freed locks.
 pub fn grants_after(alloc: Global, a: &At, made: &Made) -> Result<List<Asked>, NoMemory>
+    requires { length a.now.life.steps < 4294967295 }
     ensures { IfOk result (λ out. out ≡ grants_after a.now made.now) }
 {
     let log = log_now(alloc, a, made)?;

@@ -1,5 +1,5 @@
 // What a step reads of its site's past, each reading computed anew.
-ghost use Rattle.std.specs.Prelude.{◌≡◌, IfOk, count_by};
+ghost use Rattle.std.specs.Prelude.{◌≡◌, ◌<◌, IfOk, count_by, length};
 ghost use Rattle.std.specs.List.{list_any};
 ghost use Rattle.e3_types.specs.Same.{same_txn};
 ghost use Rattle.e3_step.specs.Asking.{lock_now, waits_now};
@@ -10,7 +10,7 @@ ghost use Rattle.e3_world.specs.Operations.{holders, queue};
 ghost use Rattle.e3_world.specs.Steps.{is_begin};
 
 use e3_locks::lock_grant;
-use e3_readings::{holders, key_of, lock_for, next, queue, waiting};
+use e3_readings::{holders, key_of, lock_for, queue, waiting};
 use e3_types::{Answer, Copied, Grant, Input, List, Lock, NoMemory, Record, Txn};
 use e3_world::{Asked, At, Made, Moment};
 use std::alloc::Global;
@@ -73,6 +73,7 @@ pub fn first_answer(answers: &[Answer]) -> Option<Answer>
 
 /// The operations that wait before the step, but those of transactions that it decided.
 pub fn waits_now(alloc: Global, a: &At, made: &Made) -> Result<List<Asked>, NoMemory>
+    requires { length a.now.life.steps < 4294967295 }
     ensures { IfOk result (λ out. out ≡ waits_now a.now made.now) }
 {
     let log = log_now(alloc, a, made)?;
@@ -87,6 +88,7 @@ pub fn waits_for(t: &Txn, asked: &[Asked]) -> bool
 }
 
 fn holders_of(alloc: Global, a: &At, q: &Asked, made: &Made) -> Result<List<Lock>, NoMemory>
+    requires { length a.now.life.steps < 4294967295 }
     ensures { IfOk result (λ out. out ≡ holders a.now.site (key_of q.now.op).name (log_now a.now made.now) a.now.life.steps) }
 {
     let log = log_now(alloc, a, made)?;
@@ -95,6 +97,7 @@ fn holders_of(alloc: Global, a: &At, q: &Asked, made: &Made) -> Result<List<Lock
 }
 
 fn queue_of(alloc: Global, a: &At, q: &Asked, made: &Made) -> Result<List<Lock>, NoMemory>
+    requires { length a.now.life.steps < 4294967295 }
     ensures { IfOk result (λ out. out ≡ queue (key_of q.now.op).name (waits_now a.now made.now)) }
 {
     let waits = waits_now(alloc, a, made)?;
@@ -103,6 +106,7 @@ fn queue_of(alloc: Global, a: &At, q: &Asked, made: &Made) -> Result<List<Lock>,
 
 /// The answer of the lock rule to a request.
 pub fn lock_now(alloc: Global, a: &At, q: &Asked, made: &Made) -> Result<Grant, NoMemory>
+    requires { length a.now.life.steps < 4294967295 }
     ensures { IfOk result (λ g. g ≡ lock_now a.now q.now made.now) }
 {
     let wanted = lock_for(q);
@@ -119,14 +123,16 @@ pub fn is_begin(m: &Moment) -> bool
 }
 
 /// How many of these steps took a Begin.
-pub fn begins(steps: &[Moment]) -> Result<u32, NoMemory>
-    ensures { IfOk result (λ n. n ≡ count_by is_begin steps.now) }
+pub fn begins(steps: &[Moment]) -> u32
+    requires { length steps.now < 4294967295 }
+    ensures count { result ≡ count_by is_begin steps.now }
+    ensures few { result < 4294967295 }
 {
     let mut n = 0;
     for m in steps {
         if is_begin(m) {
-            n = next(n)?;
+            n += 1;
         }
     }
-    Ok(n)
+    n
 }

@@ -1,5 +1,5 @@
 // The step of a site of the definitions, over a past that is read anew each time.
-ghost use Rattle.std.specs.Prelude.{◌≡◌, IfOk};
+ghost use Rattle.std.specs.Prelude.{◌≡◌, ◌<◌, IfOk, length};
 ghost use Rattle.e3_world.specs.Steps.{step_of};
 
 use crate::plain::anew::Anew;
@@ -21,18 +21,16 @@ pub fn step_of(
     since: &[SiteStep],
     input: &Input,
 ) -> Result<Made, NoMemory>
+    requires { length since.now < 4294967295 }
     ensures { IfOk result (λ made. made ≡ step_of weights.now site (record { rose = rose.now; since = since.now }) input.now) }
 {
     let mut copied = List::new(alloc);
     copied.extend(weights)?;
-    let past = Anew {
-        alloc,
-        place: At {
-            weights: copied,
-            site,
-            life: life_of(alloc, rose, since)?,
-            input: unnumbered_input(input),
-        },
+    let place = At {
+        weights: copied,
+        site,
+        life: life_of(alloc, rose, since)?,
+        input: unnumbered_input(input),
     };
-    step_at(&past)
+    step_at(&Anew::new(alloc, place))
 }

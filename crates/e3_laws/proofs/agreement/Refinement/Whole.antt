@@ -87,7 +87,7 @@ good_delivery h packet s is z says = by z says
         row_decide h nothing f u dir s (good_nothing h) (λ same. came (Decide dir) (msg.Decide u dir) says (word u (Decide dir) same))
 
 -- each input
-good_input : (h : Here) → Stands h → (i : Input) → h.at.input ≡ i → MayTake h.at.site i → Good h (on_input h.at i nothing)
+pub good_input : (h : Here) → Stands h → (i : Input) → h.at.input ≡ i → MayTake h.at.site i → Good h (on_input h.at i nothing)
 good_input h s (input.Begin sites) is fits = row_begin h sites
 good_input h s (input.Do u op) is fits = row_issue h u op fits.0 fits.1
 good_input h s (input.Commit u) is fits = row_commits h u s fits.0 fits.1

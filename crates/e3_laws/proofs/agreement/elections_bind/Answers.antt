@@ -4,6 +4,7 @@ use Rattle.e3_laws.proofs.agreement.Refinement.Voting.{contains_from_in}
 use Rattle.e3_types.specs.declared.records.Record.TheVariants as log
 use Rattle.e3_laws.proofs.agreement.Facing.{join_fits, attempt_fits, attempts_below}
 use Rattle.e3_laws.proofs.agreement.Binding.{lifted, ordered, elector_silent, electors_one, own_silent, tried_one, quorum_binds, report_tells, report_holds, commit_voted, commit_bars, commit_quorum, abort_reason}
+use Rattle.e3_laws.proofs.agreement.Guarding.Reported.{asked_reported}
 use Rattle.e3_laws.proofs.agreement.Single.{reports_once}
 use Rattle.e3_laws.proofs.agreement.elections_bind.Goals as goal
 
@@ -22,6 +23,9 @@ returns-clause-electors_are_one c = λ sc h t n s u given legal a b. electors_on
 
 pub returns-clause-electors_of_own_report_nothing : goal.returns-clause-electors_of_own_report_nothing
 returns-clause-electors_of_own_report_nothing c = λ sc h t s n st a given legal joined reported. own_silent sc h t s n st a (lifted sc h t given legal) joined reported
+
+pub returns-clause-asked_have_reported : goal.returns-clause-asked_have_reported
+returns-clause-asked_have_reported c = asked_reported
 
 pub returns-clause-attempts_follow_joins : goal.returns-clause-attempts_follow_joins
 returns-clause-attempts_follow_joins c = λ sc h t s n d before given legal stands.

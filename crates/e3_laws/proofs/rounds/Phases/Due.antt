@@ -12,7 +12,7 @@ use Rattle.e3_world.proofs.Turns.{self}
 use Rattle.e3_laws.proofs.rounds.Deliveries.Forced.{some_line}
 use Rattle.e3_laws.proofs.rounds.Phases.Members.{IsShaped, due_shaped}
 use Rattle.e3_laws.proofs.rounds.Deliveries.Steps.{group_is_set}
-use Rattle.e3_world.proofs.Ascents.{ascends_filter, split}
+use Rattle.e3_world.proofs.Ascents.{ascends_filter, ascends_parts}
 use Rattle.e3_laws.proofs.rounds.Phases.Turns.{others_are, turns_are}
 use Rattle.e3_laws.proofs.rounds.Phases.Walked.{Each, Turn}
 
@@ -32,7 +32,7 @@ round_turns sc start group items r given recovers due = (shaped.others, shaped.i
         ∙ ascends_filter (has_site r.txn.sites) 0 (filter (is_up_at (to_line start)) group) (ascends_filter (is_up_at (to_line start)) 0 group set)
 
     rises : ascends r.elector shaped.others ≡ true
-    rises = (split 0 r.elector shaped.others (ap (ascends 0) (sym shaped.is) ∙ members)).2
+    rises = (ascends_parts 0 r.elector shaped.others (ap (ascends 0) (sym shaped.is) ∙ members)).2
 
     receivers : others r.elector r.members ≡ shaped.others
     receivers = ap (others r.elector) shaped.is ∙ rw (self r.elector) (others_are r.elector r.elector shaped.others (omega arith) rises)

@@ -4,7 +4,7 @@ use Rattle.std.proofs.lemmas.Bool.{ne_eqb}
 use Rattle.std.proofs.lemmas.List.Folds.{list_any-append}
 use Rattle.e3_types.specs.Sets.{ascends, has_site, others}
 use Rattle.e3_world.specs.Items.{RecoveryRound}
-use Rattle.e3_world.proofs.Ascents.{lt_from, split}
+use Rattle.e3_world.proofs.Ascents.{ascends_parts, lt_from}
 use Rattle.e3_world.proofs.Turns.{self}
 use Rattle.e3_laws.proofs.rounds.Phases.Walked.{Each, Turn}
 use Rattle.e3_laws.proofs.steps.Tests.{or_true}
@@ -15,7 +15,7 @@ above low [] is x has = absurd cc
 above low (y ∷ ys) is x has = by (above y ys parts.2 x) (y == x) refl has
   where
     parts : (nat_lt low y ≡ true) × (nat_le y 64 ≡ true) × (ascends y ys ≡ true)
-    parts = split low y ys is
+    parts = ascends_parts low y ys is
 
     first : low < y
     first = lt_from low y parts.0
@@ -38,7 +38,7 @@ turns_are r low done (m ∷ todo) members receivers under is =
     (turn, turns_are r m (done ++ m ∷ []) todo (members ∙ ap (λ l. r.elector ∷ l) (sym (append_assoc done (m ∷ []) todo))) (receivers ∙ sym (append_assoc done (m ∷ []) todo)) under_now parts.2)
   where
     parts : (nat_lt low m ≡ true) × (nat_le m 64 ≡ true) × (ascends m todo ≡ true)
-    parts = split low m todo is
+    parts = ascends_parts low m todo is
 
     high : low < m
     high = lt_from low m parts.0
@@ -76,7 +76,7 @@ turns_are r low done (m ∷ todo) members receivers under is =
 pub others_are : (s low : ℕ) (xs : List ℕ) → s ≤ low → ascends low xs ≡ true → others s xs ≡ xs
 others_are s low [] less is = refl
 others_are s low (x ∷ xs) less is =
-    let one = split low x xs is in
+    let one = ascends_parts low x xs is in
     let high : low < x = lt_from low x one.0 in
     let apart : (x == s) ≡ false = ne_eqb x s (λ e. let clash : ⊥ = omega (arith, high, less, e) in clash) in
     rw apart (ap (λ l. x ∷ l) (others_are s x xs (omega (arith, high, less)) one.2))

@@ -5,5 +5,5 @@ use Rattle.e3_log.proofs.prepare.hand_out.Goals as goal
 
 pub returns-then-is_told : goal.returns-then-is_told
 returns-then-is_told c =
-    let told : is_told c.args.own ≡ true = search rules in
-    handed_out c.args.from c.args.own c.args.frames c.requires.raw told _ c.without_head.ensures
+    let told : is_told c.args.region_front ≡ true = search rules in
+    handed_out c.args.from c.args.region_front c.args.frames c.requires.raw told _ c.without_head.ensures

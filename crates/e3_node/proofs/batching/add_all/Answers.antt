@@ -18,7 +18,10 @@ add_one-requires g c = λ lives live.
     let low : at < length c.args.inputs.now = c.loop-input-test.true in
     let most : most_of c.loop-input.shared ≡ most_of c.args.shared.now = inv.most in
     let used : used_of c.loop-input.shared ≤ used_of c.args.shared.now + at = inv.used in
-    let left : used_of c.args.shared.now + length c.args.inputs.now ≤ most_of c.args.shared.now = c.requires.1.1.1.1.1.1.1 in
+    let left : used_of c.args.shared.now + length c.args.inputs.now ≤ most_of c.args.shared.now = c.requires.1.1.1.1.1.1.1.0 in
+    let few = c.requires.1.1.1.1.1.1.1.1 in
+    let long : length (take at c.args.inputs.now) ≡ at = length-take-le at c.args.inputs.now (omega (arith, low)) in
+    let F : List Input → Type 0 = λ l. length g.at.history + length l < 4294967295 in
     let far : inputs_in c.loop-input.batch.steps.items ≡ take at c.args.inputs.now =
     inputs_so_far g.D.Disk.meaning.meters c.args.log.now g.at.scenario g.at.history g.at.site g.at.rose g.at.marks g.at.first (take at c.args.inputs.now) c.loop-input.batch c.loop-input.site
     c.loop-input.shared inv.added in
@@ -36,7 +39,7 @@ add_one-requires g c = λ lives live.
               c.requires.1.1.1.1.0,
               (
                 subst O (sym far) (c.requires.1.1.1.1.1.0 at (omega (arith, low))),
-                (subst B (sym far) (c.requires.1.1.1.1.1.1.0 at (omega (arith, low))), omega (arith, low, most, used, left)),
+                (subst B (sym far) (c.requires.1.1.1.1.1.1.0 at (omega (arith, low))), (omega (arith, low, most, used, left), subst F (sym far) (omega (arith, low, long, few)))),
               ),
             ),
           ),

@@ -1,7 +1,9 @@
 use Rattle.std.proofs.Common.{rules, ◌≡◌, ◌<◌, ◌≤◌, ◌+◌, ◌++◌, ◌∷◌, [], ℕ, List, Option, length, refl, sym, subst, ap, ◌∙◌, arith}
 use Rattle.std.specs.Prelude.{Result, Err}
 use Rattle.e3_node.specs.declared.batching.Batch.{Batch}
-use Rattle.e3_site.specs.SiteView.{SiteView, entry_of_plan}
+use Rattle.e3_site.proofs.Steps.{steps_are_few}
+use Rattle.e3_site.specs.SiteView.{SiteView, Stands, entry_of_plan}
+use Rattle.e3_site.specs.StandsAlike.{now_with}
 use Rattle.e3_types.specs.declared.entries.Entry.{Entry}
 use Rattle.e3_types.specs.declared.entries.Input.{Input}
 use Rattle.e3_types.specs.declared.records.Record.{Record}
@@ -14,9 +16,22 @@ use Rattle.e3_node.specs.Briefing.{HasBody}
 use Rattle.e3_node.specs.declared.briefing.Room.{Room}
 use Rattle.e3_node.specs.declared.briefing.Room.TheVariants.{Full}
 use Rattle.e3_wire.specs.declared.fault.WireFault.{WireFault}
+use Rattle.e3_node.specs.Batches.{stepped}
+use Rattle.e3_node.proofs.Bundles.{stepped_long}
 use Rattle.e3_node.proofs.Adding.{batch_added, batch_same, claim_refused, err_so, no_more_room}
 use Rattle.e3_node.proofs.Several.{most_push, owners_push, used_push}
 use Rattle.e3_node.proofs.batching.add_one.Goals as goal
+
+pub planned-requires : goal.planned-requires
+planned-requires g c =
+    let h : List Entry = stepped g.at.scenario g.at.history g.at.site g.at.done in
+    let alike = c.requires.1.1.1.0.stands in
+    let fewer = steps_are_few g.at.scenario h g.at.site in
+    let long = stepped_long g.at.scenario g.at.history g.at.site g.at.done in
+    let few = c.requires.1.1.1.1.1.1.1.1 in
+    let P : ℕ → Type 0 = λ n. Stands (now_with g.at.rose g.at.scenario h n) c.args.site.now in
+    let Q : ℕ → Type 0 = λ n. length (now_with g.at.rose g.at.scenario h n).since < 4294967295 in
+    (subst P (sym alike.site_is) alike.stands, subst Q (sym alike.site_is) (omega (arith, fewer, long, few)))
 
 pub returns-clause-added : goal.returns-clause-added
 returns-clause-added g c = λ yes.
@@ -101,7 +116,7 @@ returns-in_err-claim-clause-kept g c =
 
 pub returns-in_err-claim-clause-refused : goal.returns-in_err-claim-clause-refused
 returns-in_err-claim-clause-refused g c =
-    let left : used_of c.args.shared.now < most_of c.args.shared.now = c.requires.1.1.1.1.1.1.1 in
+    let left : used_of c.args.shared.now < most_of c.args.shared.now = c.requires.1.1.1.1.1.1.1.0 in
     claim_refused c.in_err-claim.field-0.0 c.from_residual-in_err-claim.result c.from_residual-in_err-claim.ensures.1
     (λ is.
     let full : most_of c.args.shared.now ≤ used_of c.args.shared.now =

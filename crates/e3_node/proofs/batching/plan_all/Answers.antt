@@ -10,7 +10,7 @@ use Rattle.e3_wire.specs.declared.marks.Mark.{Mark}
 use Rattle.e3_wire.proofs.Claiming.{owner_on}
 use Rattle.e3_world.specs.Moves.{log_of}
 use Rattle.e3_node.proofs.Planning.{claims_grew, freed_same, no_batch, places_taken, planned, stands_taken}
-use Rattle.e3_node.proofs.Several.{left_freed, owners_freed}
+use Rattle.e3_node.proofs.Several.{counted_freed, left_freed, owners_freed}
 use Rattle.e3_node.proofs.batching.plan_all.Goals as goal
 
 pub free-requires : goal.free-requires
@@ -31,6 +31,8 @@ add_all-added-requires g c = λ lives live.
     let exists = owner_on (last_of c.args.pass.now) (owners_of c.args.pass.now) (seen_by c.args.pass.now) marks c.args.number c.take-shared.ensures.grew c.requires.exists in
     let many = places_taken c.args.pass.now c.args.number (length c.args.inputs.now) marks c.requires.owns c.take-shared.ensures.grew c.requires.places in
     let stands = stands_taken c.args.pass.now c.args.number c.args.rose.now marks c.args.site.now c.requires.owns c.take-shared.ensures.grew c.requires.played c.take-shared.ensures.played c.requires.stands in
+    let left = left_freed marks c.args.number (length c.args.inputs.now) c.take-shared.ensures.played exists many in
+    let F : Scenario → List Entry → Type 0 = λ sc h. length h + length c.args.inputs.now ≤ 4294967295 in
     let P : List Mark → Type 0 = λ l. c.args.number ≤ last_owner l in
     let Q : List Mark → Type 0 = λ l. used_of l + length c.args.inputs.now ≤ most_of l in
     let R : Scenario → List Entry → Type 0 = λ sc h. StandsAlike sc h c.args.number c.args.rose.now c.args.site.now in
@@ -52,7 +54,10 @@ add_all-added-requires g c = λ lives live.
                 freed_same marks freed c.args.number c.take-shared.ensures.played c.free.ensures O (c.requires.orders marks c.take-shared.ensures.grew c.take-shared.ensures.played),
                 (
                   freed_same marks freed c.args.number c.take-shared.ensures.played c.free.ensures B (c.requires.briefs marks c.take-shared.ensures.grew c.take-shared.ensures.played),
-                  subst Q (sym c.free.ensures) (left_freed marks c.args.number (length c.args.inputs.now) c.take-shared.ensures.played exists many),
+                  (
+                    subst Q (sym c.free.ensures) left,
+                    freed_same marks freed c.args.number c.take-shared.ensures.played c.free.ensures F (counted_freed marks c.args.number (length c.args.inputs.now) c.take-shared.ensures.played exists many),
+                  ),
                 ),
               ),
             ),

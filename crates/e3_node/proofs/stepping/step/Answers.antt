@@ -23,8 +23,8 @@ use Rattle.e3_node.proofs.Counts.{may_turn, one_more_entry}
 use Rattle.e3_node.proofs.Framing.{one_frame}
 use Rattle.e3_node.proofs.Guarding.{first_takes_least}
 use Rattle.e3_node.proofs.Orders.{step_order}
-use Rattle.e3_node.proofs.Sharing.{fall_uses, has_from, may_enter, step_uses}
-use Rattle.e3_node.proofs.Steps.{draft_made, fall_allowed, fall_entered, fall_takes, fallen_tells, inputs_on, own_stands, records_made, site_on, step_allowed, step_entered, step_logged, stepped_up}
+use Rattle.e3_node.proofs.Sharing.{fall_uses, has_from, may_enter, step_uses, under}
+use Rattle.e3_node.proofs.Steps.{draft_made, fall_allowed, fall_entered, fall_takes, fallen_tells, inputs_on, own_are_few, own_stands, records_made, site_on, step_allowed, step_entered, step_logged, stepped_up}
 use Rattle.e3_node.proofs.Written.{Follows, step_follows, up_brief}
 use Rattle.e3_node.proofs.stepping.step.Goals as goal
 
@@ -35,7 +35,14 @@ no_fall wire_fault.HistoryFull (Err fault) why is fell = cc
 no_fall wire_fault.NoMemory (Err fault) why is fell = cc
 
 pub prepare-requires : goal.prepare-requires
-prepare-requires g c = own_stands (scenario_of c.args.shared.now) (entries_of c.args.shared.now) c.args.number c.args.site.now c.requires.up.stands
+prepare-requires g c =
+    let was = c.args.shared.now in
+    let played = c.requires.shared.stands.played in
+    let within = under was played in
+    let few = played.few in (
+      own_stands (scenario_of was) (entries_of was) c.args.number c.args.site.now c.requires.up.stands,
+      own_are_few (scenario_of was) (entries_of was) c.args.number c.args.site.now c.requires.up.stands c.requires.up.up (omega (arith, within, few)),
+    )
 
 pub write-requires-clause-may : goal.write-requires-clause-may
 write-requires-clause-may g c =

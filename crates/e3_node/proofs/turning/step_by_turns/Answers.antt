@@ -26,15 +26,22 @@ use Rattle.e3_node.proofs.Counts.{claimed_entry, may_turn}
 use Rattle.e3_node.proofs.Framing.{one_frame}
 use Rattle.e3_node.proofs.Orders.{log_in_order}
 use Rattle.e3_node.proofs.Places.{entered_back, looked_back, still_back}
-use Rattle.e3_node.proofs.Sharing.{fall_used, step_used}
-use Rattle.e3_node.proofs.Steps.{draft_made, fall_allowed, fall_entered, fall_takes, fallen_tells, inputs_on, own_stands, records_made, site_on, step_allowed, step_entered, step_logged, stepped_up}
+use Rattle.e3_node.proofs.Sharing.{fall_used, step_used, under}
+use Rattle.e3_node.proofs.Steps.{draft_made, fall_allowed, fall_entered, fall_takes, fallen_tells, inputs_on, own_are_few, own_stands, records_made, site_on, step_allowed, step_entered, step_logged, stepped_up}
 use Rattle.e3_node.proofs.InputsByTurns.{refused}
 use Rattle.e3_node.proofs.Waiting.{behind_of, entered_turn, entries, keys_stay, looked, made_meanwhile, may_commit, meanwhile, still_owns, still_restless, still_up, up_meanwhile}
 use Rattle.e3_node.proofs.Written.{Follows, follows_while, step_follows, up_brief}
 use Rattle.e3_node.proofs.turning.step_by_turns.Goals as goal
 
 pub prepare_by_turns-requires : goal.prepare_by_turns-requires
-prepare_by_turns-requires g c = own_stands (scenario_seen c.args.pass.now) (history_seen c.args.pass.now) c.args.number c.args.site.now c.requires.up.stands
+prepare_by_turns-requires g c =
+    let p = c.args.pass.now in
+    let played = c.requires.turns.played in
+    let within = under (seen_by p) played in
+    let few = played.few in (
+      own_stands (scenario_seen p) (history_seen p) c.args.number c.args.site.now c.requires.up.stands,
+      own_are_few (scenario_seen p) (history_seen p) c.args.number c.args.site.now c.requires.up.stands c.requires.up.up (omega (arith, within, few)),
+    )
 
 pub write-requires-clause-may : goal.write-requires-clause-may
 write-requires-clause-may g c =

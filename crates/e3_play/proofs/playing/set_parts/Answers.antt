@@ -1,4 +1,4 @@
-use Rattle.std.proofs.Common.{◌∙◌, sym, subst, List}
+use Rattle.std.proofs.Common.{◌∙◌, sym, subst, List, arith}
 use Rattle.e3_types.specs.declared.entries.Entry.{Entry}
 use Rattle.e3_types.specs.declared.scenarios.Scenario.{Scenario}
 use Rattle.e3_world.specs.Legal.{IsParts}
@@ -7,6 +7,9 @@ use Rattle.e3_play.specs.declared.sites.RunFault.TheVariants.{HistoryFull}
 use Rattle.e3_play.proofs.Answered.{of_err, on_ok}
 use Rattle.e3_play.proofs.Steps.{no_parts, parts_are_due, parts_entered, parts_full}
 use Rattle.e3_play.proofs.playing.set_parts.Goals as goal
+
+pub parts_due-requires : goal.parts_due-requires
+parts_due-requires g c = let few = c.requires.given.few in omega (arith, few)
 
 pub parts-requires-clause-due : goal.parts-requires-clause-due
 parts-requires-clause-due g c =

@@ -16,4 +16,4 @@ pub returns-else-tells_own : goal.returns-else-tells_own
 returns-else-tells_own c =
     let own : (same_txn c.args.t.now c.in-Done.txn && list_any (tells_op c.args.t.now c.in-Done.n) c.args.events.now) ≡ false =
     grind (arith, common_steps) in
-    rw (c.in-Done.is, own) (record { ok = refl; err = tt })
+    rw (c.in-Done.is, own) refl

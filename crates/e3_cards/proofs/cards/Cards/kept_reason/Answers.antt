@@ -5,5 +5,5 @@ use Rattle.e3_cards.proofs.cards.Cards.kept_reason.Goals as goal
 
 pub returns : goal.returns
 returns c = λ a stands.
-    let card = c.card_of.ensures a stands in
+    let card = c.card_of.ensures.card a stands in
     c.reason_of.ensures ∙ ap (λ (k : Card). first_of k.reasons) card

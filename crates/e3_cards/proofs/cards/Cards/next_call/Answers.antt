@@ -1,5 +1,10 @@
-use Rattle.e3_cards.proofs.Reading.{ok_is, call_at}
+-- next_call
+use Rattle.std.proofs.Common.{◌∙◌}
+use Rattle.e3_cards.proofs.Reading.{call_at}
 use Rattle.e3_cards.proofs.cards.Cards.next_call.Goals as goal
 
+pub call_next-requires : goal.call_next-requires
+call_next-requires c = c.requires.calls
+
 pub returns : goal.returns
-returns c = λ a stands. ok_is c.call_next.result _ _ (call_at c.args.self.now a stands) c.call_next.ensures
+returns c = λ a stands. c.call_next.ensures ∙ call_at c.args.self.now a stands

@@ -18,7 +18,7 @@ put-requires-clause-high c =
     (awaited_within c.args.from c.args.n c.args.self.now.ops due).1
 
 pub returns-clause-rule : goal.returns-clause-rule
-returns-clause-rule c = λ own steps m x taken kept on.
+returns-clause-rule c = λ coordinator steps m x taken kept on.
     let due : is_awaited_from c.args.from c.args.n c.args.self.now.ops ≡ true = cc in
-    subst (λ (k : Kept). IsKept own (steps ++ and_told m (told.Op c.args.self.now.txn c.args.n x) ∷ []) k) (sym c.put.ensures)
-    (answers own c.args.from c.args.n c.args.inc steps c.args.self.now m x kept due on)
+    subst (λ (k : Kept). IsKept coordinator (steps ++ and_told m (told.Op c.args.self.now.txn c.args.n x) ∷ []) k) (sym c.put.ensures)
+    (answers coordinator c.args.from c.args.n c.args.inc steps c.args.self.now m x kept due on)

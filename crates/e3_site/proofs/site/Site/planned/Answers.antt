@@ -1,11 +1,19 @@
-use Rattle.std.proofs.Common.{IfOk, ap, subst, sym, ◌∙◌, ℕ, List}
+use Rattle.std.proofs.Common.{IfOk, ap, subst, sym, ◌∙◌, ◌<◌, ℕ, List}
+use Rattle.e3_cards.proofs.Countable.{are_countable}
+use Rattle.e3_readings.proofs.Counting.{life_steps}
 use Rattle.e3_site.proofs.Standing.{planned_is}
 use Rattle.e3_site.specs.SiteView.{IsPlanOf, SiteView, Stands}
+use Rattle.e3_world.specs.Lives.{life_of}
 use Rattle.e3_world.specs.Steps.{step_of}
 use Rattle.e3_site.proofs.site.Site.planned.Goals as goal
 
 pub step_with-requires : goal.step_with-requires
-step_with-requires g c = subst (λ (s : SiteView). Stands g.now s) (sym c.self.view_is) c.requires
+step_with-requires g c = (subst (λ (s : SiteView). Stands g.now s) (sym c.self.view_is) c.requires.0, c.requires.1)
+
+pub new-requires : goal.new-requires
+new-requires g c =
+    let stands = subst (λ (s : SiteView). Stands g.now s) (sym c.self.view_is) c.requires.0 in
+    are_countable c.self.inside.site c.self.inside.tables.cards (life_of g.now) stands.cards_stand (subst (λ (n : ℕ). n < 4294967295) (sym (life_steps g.now)) c.requires.1)
 
 pub returns-clause-made : goal.returns-clause-made
 returns-clause-made g c =
