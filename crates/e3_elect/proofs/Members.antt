@@ -6,7 +6,7 @@ use Rattle.std.proofs.lemmas.Grind.{common_steps}
 use Rattle.std.proofs.lemmas.Bool.{or_cases, or_parts, eqb-true, eq-eqb, and_parts}
 use Rattle.std.proofs.lemmas.List.Folds.{list_any-append}
 use Rattle.e3_types.specs.Sets.{ascends, has_site, is_within, others}
-use Rattle.e3_elect.specs.Calling.{IsWhole, are_members, are_behind_own}
+use Rattle.e3_elect.specs.Calling.{IsWhole, are_members, are_behind_elector}
 
 -- another site stays where one is taken away
 has_others : (x y : ℕ) (all : List ℕ) → has_site all y ≡ true → (y ≡ x → ⊥) → has_site (others x all) y ≡ true
@@ -118,8 +118,8 @@ has_room f group xs s m g h =
 
 -- behind the elector, one that comes from a new member: all of them are members still
 pub comes_behind_own : {X : Type 0} (f : X → ℕ) (group : List ℕ) (xs : List X) (x : X)
-    → are_behind_own group (map f xs) ≡ true → has_site group (f x) ≡ true → list_any (λ y. f y == f x) xs ≡ false
-    → are_behind_own group (map f (xs ++ x ∷ [])) ≡ true
+    → are_behind_elector group (map f xs) ≡ true → has_site group (f x) ≡ true → list_any (λ y. f y == f x) xs ≡ false
+    → are_behind_elector group (map f (xs ++ x ∷ [])) ≡ true
 comes_behind_own f group [] x m g h = refl
 comes_behind_own f group (y ∷ ys) x m g h =
     let apart = or_parts (f y == f x) (list_any (λ z. f z == f x) ys) h in
@@ -133,7 +133,7 @@ comes_behind_own f group (y ∷ ys) x m g h =
 
 -- and there was room for it, with the elector
 pub has_room_behind_own : {X : Type 0} (f : X → ℕ) (group : List ℕ) (xs : List X) (s : ℕ)
-    → are_behind_own group (map f xs) ≡ true → has_site group s ≡ true → list_any (λ y. f y == s) xs ≡ false
+    → are_behind_elector group (map f xs) ≡ true → has_site group s ≡ true → list_any (λ y. f y == s) xs ≡ false
     → length xs ≤ length group
 has_room_behind_own f group [] s m g h = omega arith
 has_room_behind_own f group (y ∷ ys) s m g h =
@@ -142,7 +142,7 @@ has_room_behind_own f group (y ∷ ys) s m g h =
     omega (arith, n)
 
 -- where all that came are of the group, they are members of it, each once
-all_members : (group came : List ℕ) → are_behind_own group came ≡ true → is_within came group ≡ true → are_members group came ≡ true
+all_members : (group came : List ℕ) → are_behind_elector group came ≡ true → is_within came group ≡ true → are_members group came ≡ true
 all_members group [] m w = refl
 all_members group (own ∷ sites) m w =
     let p = and_parts (not (has_site sites own)) (are_members group sites) m in
@@ -185,7 +185,7 @@ set_members low came (s ∷ ss) up w =
     grind (arith, common_steps, here, alone, rest)
 
 -- so, where all that came are of the group, as many as the group has sites are just the whole group
-pub whole : (group came : List ℕ) → ascends 0 group ≡ true → are_behind_own group came ≡ true → is_within came group ≡ true
+pub whole : (group came : List ℕ) → ascends 0 group ≡ true → are_behind_elector group came ≡ true → is_within came group ≡ true
     → (length came ≡ length group) ↔ (is_within group came ≡ true)
 whole group came up m w =
     let all = all_members group came m w in (
@@ -201,7 +201,7 @@ whole group came up m w =
         grind (arith, common_steps, here, rest)
 
 -- the test of two counts says so
-pub whole_test : (group came : List ℕ) (n k : ℕ) → n ≡ length came → k ≡ length group → ascends 0 group ≡ true → are_behind_own group came ≡ true → IsWhole group came (n == k)
+pub whole_test : (group came : List ℕ) (n k : ℕ) → n ≡ length came → k ≡ length group → ascends 0 group ≡ true → are_behind_elector group came ≡ true → IsWhole group came (n == k)
 whole_test group came n k a b up m w =
     let both = whole group came up m w in (
       λ e. both.0 (sym a ∙ eqb-true n k e ∙ b),

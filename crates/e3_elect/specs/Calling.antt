@@ -14,9 +14,9 @@ are_members group [] = true
 are_members group (site ∷ sites) = has_site group site && (not (has_site sites site) && are_members group sites)
 
 -- all but the first of these, which is the elector, are members of the group, each once and none the elector
-abbrev pub are_behind_own : List ℕ → List ℕ → Bool
-are_behind_own group [] = true
-are_behind_own group (own ∷ sites) = not (has_site sites own) && are_members group sites
+abbrev pub are_behind_elector : List ℕ → List ℕ → Bool
+are_behind_elector group [] = true
+are_behind_elector group (elector ∷ sites) = not (has_site sites elector) && are_members group sites
 
 -- as many came as the group has sites, exactly where each site of the group came, if all that came are of the group
 abbrev pub IsWhole : List ℕ → List ℕ → Bool → Type 0

@@ -3,7 +3,7 @@ ghost use Rattle.std.specs.Prelude.{◌≡◌, ◌==◌, ◌&&◌, if◌then◌e
 ghost use Rattle.std.specs.List.{list_any};
 ghost use Rattle.e3_types.specs.Same.{same_call};
 ghost use Rattle.e3_types.specs.Sets.{has_site};
-ghost use Rattle.e3_elect.specs.Calling.{IsWhole, are_behind_own};
+ghost use Rattle.e3_elect.specs.Calling.{IsWhole, are_behind_elector};
 
 use e3_types::{Call, SiteReport, SiteSet};
 use e3_world::Named;
@@ -33,7 +33,7 @@ pub(crate) fn greatest_of(heard: &[Named]) -> u32
 /// As many came as the group has sites: the whole group, where all that came are of it.
 pub(crate) fn is_as_many(came: usize, group: SiteSet) -> bool
     ensures count { result ≡ (came == length group) }
-    ensures whole { (sites : Items ℕ) → length sites ≡ came → are_behind_own group sites ≡ true → IsWhole group sites result }
+    ensures whole { (sites : Items ℕ) → length sites ≡ came → are_behind_elector group sites ≡ true → IsWhole group sites result }
 {
     came == group.count() as usize
 }

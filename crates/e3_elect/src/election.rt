@@ -24,14 +24,14 @@ pub struct Election {
 impl Model for Election {
     ghost use Rattle.std.specs.Prelude.{◌≡◌, ◌<◌, true, length, map, vec_capacity};
     ghost use Rattle.e3_world.specs.Gatherings.{Election as Gathering};
-    ghost use Rattle.e3_elect.specs.Calling.{are_behind_own};
+    ghost use Rattle.e3_elect.specs.Calling.{are_behind_elector};
 
     ghost Value = { Gathering };
 
     ghost view = { λ a. record { call = a.call; group = a.group; heard = a.heard.items; number = a.joined; reports = a.reports.items } };
 
     ghost invariant = { λ a. (length a.group < vec_capacity a.heard) × (length a.group < vec_capacity a.reports)
-        × (are_behind_own a.group (map (λ h. h.site) a.heard.items) ≡ true) × (are_behind_own a.group (map (λ r. r.site) a.reports.items) ≡ true) };
+        × (are_behind_elector a.group (map (λ h. h.site) a.heard.items) ≡ true) × (are_behind_elector a.group (map (λ r. r.site) a.reports.items) ≡ true) };
 }
 
 // No items, with room for one more than the group has.

@@ -7,7 +7,7 @@ use Rattle.e3_types.specs.Sets.{has_site}
 use Rattle.e3_world.specs.Gatherings.{Election}
 use Rattle.e3_world.specs.declared.elections.Named.{Named}
 use Rattle.e3_world.specs.Elections.{hear}
-use Rattle.e3_elect.specs.Calling.{are_behind_own}
+use Rattle.e3_elect.specs.Calling.{are_behind_elector}
 use Rattle.e3_elect.proofs.Members.{has_room_behind_own, comes_behind_own}
 use Rattle.e3_elect.proofs.Taking.{awaited_parts, hear_new}
 use Rattle.e3_elect.proofs.election.Election.heard.Goals as goal
@@ -23,8 +23,8 @@ pub invariant_of-self : goal.invariant_of-self
 invariant_of-self c =
     let counts = awaited_parts (same_call c.self.inside.call c.args.call) (has_site c.self.inside.group c.args.from) (list_any (λ h. h.site == c.args.from) c.self.inside.heard.items) cc in
     let x : Named = record { site = c.args.from; elected = c.args.elected } in
-    let members : are_behind_own c.self.inside.group (map (λ (h : Named). h.site) c.push_reserved.new.self.items) ≡ true =
-    ap (λ (l : List Named). are_behind_own c.self.inside.group (map (λ (h : Named). h.site) l)) c.push_reserved.ensures.items
+    let members : are_behind_elector c.self.inside.group (map (λ (h : Named). h.site) c.push_reserved.new.self.items) ≡ true =
+    ap (λ (l : List Named). are_behind_elector c.self.inside.group (map (λ (h : Named). h.site) l)) c.push_reserved.ensures.items
     ∙ comes_behind_own (λ (h : Named). h.site) c.self.inside.group c.self.inside.heard.items x c.self.invariant.2 counts.1 counts.2 in
     (omega (arith, c.self.invariant.0, c.push_reserved.ensures.capacity), c.self.invariant.1, members, c.self.invariant.3)
 

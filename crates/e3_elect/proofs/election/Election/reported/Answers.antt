@@ -6,7 +6,7 @@ use Rattle.e3_types.specs.declared.verdicts.SiteReport.{SiteReport}
 use Rattle.e3_types.specs.Sets.{has_site}
 use Rattle.e3_world.specs.Gatherings.{Election}
 use Rattle.e3_world.specs.Elections.{take_report}
-use Rattle.e3_elect.specs.Calling.{are_behind_own}
+use Rattle.e3_elect.specs.Calling.{are_behind_elector}
 use Rattle.e3_elect.proofs.Members.{has_room_behind_own, comes_behind_own}
 use Rattle.e3_elect.proofs.Taking.{is_number, owed_parts, take_new}
 use Rattle.e3_elect.proofs.election.Election.reported.Goals as goal
@@ -22,8 +22,8 @@ push_reserved-requires c =
 pub invariant_of-self : goal.invariant_of-self
 invariant_of-self c =
     let counts = owed_parts (has_site c.self.inside.group c.args.report.site) (list_any (λ r. r.site == c.args.report.site) c.self.inside.reports.items) cc in
-    let members : are_behind_own c.self.inside.group (map (λ (r : SiteReport). r.site) c.push_reserved.new.self.items) ≡ true =
-    ap (λ (l : List SiteReport). are_behind_own c.self.inside.group (map (λ (r : SiteReport). r.site) l)) c.push_reserved.ensures.items
+    let members : are_behind_elector c.self.inside.group (map (λ (r : SiteReport). r.site) c.push_reserved.new.self.items) ≡ true =
+    ap (λ (l : List SiteReport). are_behind_elector c.self.inside.group (map (λ (r : SiteReport). r.site) l)) c.push_reserved.ensures.items
     ∙ comes_behind_own (λ (r : SiteReport). r.site) c.self.inside.group c.self.inside.reports.items c.args.report c.self.invariant.3 counts.0 counts.1 in
     (c.self.invariant.0, omega (arith, c.self.invariant.1, c.push_reserved.ensures.capacity), c.self.invariant.2, members)
 
