@@ -14,6 +14,8 @@ pub mod Deciding
 pub mod Moving
 pub mod Keeping
 mod Ending
+mod Freed
+mod Sending
 mod Inputs
 mod Histories
 pub mod Suits

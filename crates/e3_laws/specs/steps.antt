@@ -4,3 +4,4 @@ pub mod Bounds
 pub mod Trails
 pub mod Mentions
 pub mod Begun
+pub mod Sending

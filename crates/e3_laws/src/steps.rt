@@ -1,5 +1,6 @@
 //! Laws of steps, and of what legal histories send, record, take and mention.
 ghost use Rattle.e3_laws.specs.steps.Claims.{NumbersAreAll, OwnMessagesEnd, OwnRanksFall, PacketRanksFall, PrefixIsLegal, StepIsOwn, TakenNumberIsNothing};
+ghost use Rattle.e3_laws.specs.steps.Sending.{StepsSendFew};
 ghost use Rattle.e3_laws.specs.steps.Trails.{DoneNumbersAscend, DueInputsFit, InputsSuit, LogsAreOfTrails, NamesDiffer, OneWaits, OperationsComeInTurn, PacketsGoBetween, PendingWasSent, RecordsSuitTheirSite, SilentMovesEnd, TrailsAreSound, VotesAtTheirSite};
 ghost use Rattle.e3_laws.specs.steps.Begun.{BegunAreTransactions, DueMentionsWhatStands, EntriesMentionWhatStands, PacketsAreTheirOwners, PacketsMentionWhatStands, RecordsMentionWhatStands, StepsMentionWhatStands};
 
@@ -14,6 +15,12 @@ pub fn own_messages_end()
 /// transaction.
 pub fn packets_fall_in_rank()
     ensures { PacketRanksFall }
+{}
+
+/// A step sends an answer to each request that waits at most, and beside them a few messages to each of the sites that it sends
+/// to.
+pub fn steps_send_few()
+    ensures { StepsSendFew }
 {}
 
 /// A step depends on the site's own entries alone, but for the numbers of its packets; and the number of the packet that
