@@ -10,6 +10,7 @@ mod messages;
 mod operation_rules;
 mod past;
 pub mod plain;
+mod sending;
 mod steps;
 mod vote_rules;
 

@@ -1,5 +1,5 @@
 // What a step of a site does: the records, packets and events of an input, read off the site's own past alone.
-ghost use Rattle.std.specs.Prelude.{◌≡◌, [], IfOk, fold, suc, length, if◌then◌else◌};
+ghost use Rattle.std.specs.Prelude.{◌≡◌, ◌≤◌, ◌+◌, ◌*◌, [], IfOk, fold, suc, length, if◌then◌else◌};
 ghost use Rattle.e3_client.specs.Clients.{busy_or};
 ghost use Rattle.e3_world.specs.Making.{nothing, and_send, and_tell, attempt_now, log_now, state_now};
 ghost use Rattle.e3_types.specs.declared.entries.Input.TheVariants as input;
@@ -18,8 +18,10 @@ use crate::making::{
 };
 use crate::messages::on_message;
 use crate::past::Past;
+use crate::sending::takes_few;
 use e3_client::{refuse_attempted, refuse_open};
 use e3_elect::Election;
+use e3_laws::steps::steps_send_few;
 use e3_readings::{key_of, number_behind};
 use e3_types::{Dir, Input, List, Message, NoMemory, Op, Refusal, SiteSet, State, Told, Txn};
 use e3_world::Made;
@@ -235,11 +237,16 @@ pub fn settle_once<P: Past>(p: &P, made: &mut Made) -> Result<(), NoMemory>
     Ok(())
 }
 
-/// The step that is made at this place.
+/// The step that is made at this place. It has fewer packets than 32 bits count, where it comes behind fewer than 4,000,000,000
+/// steps.
 pub fn step_at<P: Past>(p: &P) -> Result<Made, NoMemory>
-    ensures { IfOk result (λ made. made ≡ step_at (P.at p.now)) }
+    ensures made { IfOk result (λ made. made ≡ step_at (P.at p.now)) }
+    ensures few { IfOk result (λ made. length made.outs ≤ suc (length (P.at p.now).life.steps) + 9 * 64) }
 {
-    let mut made = on_input(p, p.input())?;
+    let input = p.input();
+    takes_few(p, input)?;
+    steps_send_few();
+    let mut made = on_input(p, input)?;
     and_grants(p, 0, &mut made)?;
     settle_once(p, &mut made)?;
     settle_once(p, &mut made)?;
