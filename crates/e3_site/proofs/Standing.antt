@@ -1,5 +1,6 @@
 -- What a site that stands for a history plans, and that it goes on standing for it.
-use Rattle.std.proofs.Common.{◌≡◌, true, ℕ, List, [], ◌∷◌, ◌++◌, refl, sym, subst, ap, ◌∙◌, fold, Result, Ok, Err, IfOk}
+use Rattle.std.proofs.Common.{◌≡◌, ◌<◌, ◌^◌, arith, length, true, ℕ, List, [], ◌∷◌, ◌++◌, refl, sym, subst, ap, ◌∙◌, fold, Result, Ok, Err, IfOk}
+use Rattle.std.proofs.lemmas.List.{length-map}
 use Rattle.std.proofs.lemmas.List.Sums.{fold-append}
 use Rattle.e3_readings.specs.Opens.{open_in}
 use Rattle.e3_site.proofs.past.RecordsFollow.{step_follows}
@@ -21,7 +22,7 @@ use Rattle.e3_world.specs.declared.lives.SiteStep.{SiteStep}
 use Rattle.e3_world.specs.Legal.{entry_of, made_by}
 use Rattle.e3_world.specs.Lives.{incarnation_of, life_by, life_of}
 use Rattle.e3_world.specs.Logs.{logged_inc}
-use Rattle.e3_world.specs.Moves.{Move, Past, Rose, past_of, moves_of, own_entries, log_by}
+use Rattle.e3_world.specs.Moves.{unnumbered, Move, Past, Rose, past_of, moves_of, own_entries, log_by}
 use Rattle.e3_world.specs.Steps.{step_of}
 use Rattle.e3_world.proofs.Numbers.{entered_move}
 use Rattle.e3_world.proofs.Pushes.{past_push, incarnation_push, log_push, present_is_log}
@@ -63,6 +64,14 @@ pub planned_is : (now : Incarnation) (s : SiteView) (i : Input) (made : Made) (r
     → IfOk r (λ plan. plan.step ≡ step_kept i made) → IfOk r (λ plan. plan.step ≡ planned_step now s i)
 planned_is now s i made (Ok plan) is kept = kept ∙ ap (step_kept i) is
 planned_is now s i made (Err e) is kept = tt
+
+-- its packets are as many as those of the step that is made
+pub few_planned : (i : Input) (made : Made) (r : Result PlanView NoMemory) → length made.outs < 2 ^ 32
+    → IfOk r (λ plan. plan.step ≡ step_kept i made) → IfOk r (λ plan. length plan.step.outs < 2 ^ 32)
+few_planned i made (Ok plan) few kept =
+    let same : length plan.step.outs ≡ length made.outs = ap (λ (s : SiteStep). length s.outs) kept ∙ length-map made.outs unnumbered in
+    omega (arith, few, same)
+few_planned i made (Err e) few kept = tt
 
 pub plans_step : (now : Incarnation) (s : SiteView) (i : Input) (r : Result PlanView NoMemory) → IfOk r (λ plan. plan.step ≡ planned_step now s i)
     → IfOk r (λ plan. PlansStep now s i plan.step)

@@ -1,5 +1,5 @@
 // A step that a site has planned and not done.
-ghost use Rattle.std.specs.Prelude.{◌≡◌, ◌<◌, ◌^◌, IfOk, length, map};
+ghost use Rattle.std.specs.Prelude.{◌≡◌, IfOk, map};
 ghost use Rattle.e3_cards.specs.Tables.{AreCountable};
 ghost use Rattle.e3_site.specs.past.Stepping.{IsMadeOf};
 ghost use Rattle.e3_site.specs.SiteView.{entry_of_plan, step_kept};
@@ -53,18 +53,13 @@ fn fitted<T: Drop>(items: List<T>) -> List<T>
     List::from_vec(items)
 }
 
-// The step as a site keeps it. Its packets are counted in 32 bits; more of them want memory.
+// The step as a site keeps it.
 fn kept(alloc: Global, input: &Input, made: Made) -> Result<SiteStep, NoMemory>
-    ensures kept { IfOk result (λ step. step ≡ step_kept input.now made) }
-    ensures few { IfOk result (λ step. length step.outs < 2 ^ 32) }
+    ensures { IfOk result (λ step. step ≡ step_kept input.now made) }
 {
-    let outs = unnumbered_outs(alloc, made.outs.as_slice())?;
-    if outs.len() > 4294967295 {
-        return Err(NoMemory);
-    }
     Ok(SiteStep {
         input: unnumbered_input(input),
-        outs,
+        outs: unnumbered_outs(alloc, made.outs.as_slice())?,
         records: fitted(made.records),
         told: fitted(made.told),
     })
@@ -81,7 +76,6 @@ impl Plan {
         requires { AreCountable tables.now.cards }
         ensures kept { IfOk result (λ plan. plan.step ≡ step_kept input.now made) }
         ensures of_tables { IfOk result (λ plan. IsMadeOf tables.now plan.step plan.behind) }
-        ensures few { IfOk result (λ plan. length plan.step.outs < 2 ^ 32) }
     {
         let step = kept(alloc, input, made)?;
         let made_of_them = behind(alloc, tables, &step)?;

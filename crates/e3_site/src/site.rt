@@ -71,7 +71,7 @@ impl Site {
     fn planned(&self, input: &Input) -> Result<Plan, NoMemory>
         ghost now: { Incarnation }
         requires stands { Stands now self.now }
-        requires few { length now.since < 4294967295 }
+        requires few { length now.since < 4000000000 }
         ensures made { IfOk result (λ plan. plan.step ≡ planned_step now self.now input.now) }
         ensures of_site { IfOk result (λ plan. IsPlanOf plan self.now) }
         ensures few { IfOk result (λ plan. length plan.step.outs < 2 ^ 32) }
@@ -87,12 +87,13 @@ impl Site {
         Plan::new(self.alloc, tables, input, made)
     }
 
-    /// What an input makes the site do, where it made fewer steps since it rose than 32 bits count. The number of a delivered
-    /// packet is nothing to it. Want of memory is the only error.
+    /// What an input makes the site do, where it made fewer than 4,000,000,000 steps since it rose: 32 bits count the packets,
+    /// since no more requests are granted than steps were made. The number of a delivered packet is nothing to it. Want of
+    /// memory is the only error.
     pub fn plan(&self, input: &Input) -> Result<Plan, NoMemory>
         ghost now: { Incarnation }
         requires stands { Stands now self.now }
-        requires few { length now.since < 4294967295 }
+        requires few { length now.since < 4000000000 }
         ensures made { IfOk result (λ plan. plan.step ≡ planned_step now self.now input.now) }
         ensures of_site { IfOk result (λ plan. IsPlanOf plan self.now) }
         ensures stands { IfOk result (λ plan. PlansStep now self.now input.now plan.step) }

@@ -1,5 +1,5 @@
 // The past of a site as its tables have it.
-ghost use Rattle.std.specs.Prelude.{◌≡◌, ◌<◌, IfOk, length};
+ghost use Rattle.std.specs.Prelude.{◌≡◌, ◌<◌, ◌≤◌, ◌+◌, ◌*◌, ◌^◌, suc, IfOk, length};
 ghost use Rattle.e3_world.specs.declared.lives.At.{At as Place};
 ghost use Rattle.e3_world.specs.declared.lives.Incarnation.{Incarnation};
 ghost use Rattle.e3_world.specs.Lives.{life_of};
@@ -197,7 +197,8 @@ fn step_at_place<K: Whose>(
     input: &Input,
 ) -> Result<Made, NoMemory>
     requires { ReadsAt K.place weights.now cards.now names.now input.now }
-    ensures { IfOk result (λ made. made ≡ step_at K.place) }
+    ensures made { IfOk result (λ made. made ≡ step_at K.place) }
+    ensures few { IfOk result (λ made. length made.outs ≤ suc (length K.place.life.steps) + 9 * 64) }
 {
     let reader: Reader<'_, K> = Reader {
         alloc,
@@ -211,8 +212,8 @@ fn step_at_place<K: Whose>(
 }
 
 /// What an input makes a site do for whose life its tables stand. The weights are those of all sites, that of site 1 first.
-/// The packets of the step have number 0, and the number of a delivered packet is nothing to it. Want of memory is the only
-/// error. The site's number is passed on for the proof alone.
+/// The packets of the step have number 0, and the number of a delivered packet is nothing to it. 32 bits count them. Want of
+/// memory is the only error. The site's number is passed on for the proof alone.
 pub fn step_with(
     alloc: Global,
     weights: &[u32],
@@ -222,8 +223,9 @@ pub fn step_with(
 ) -> Result<Made, NoMemory>
     ghost now: { Incarnation }
     requires stand { TablesStand _site (life_of now) tables.now }
-    requires few { length now.since < 4294967295 }
-    ensures { IfOk result (λ made. made ≡ step_of weights.now _site now input.now) }
+    requires few { length now.since < 4000000000 }
+    ensures made { IfOk result (λ made. made ≡ step_of weights.now _site now input.now) }
+    ensures few { IfOk result (λ made. length made.outs < 2 ^ 32) }
 {
     step_at_place::<Brand>(
         alloc,
