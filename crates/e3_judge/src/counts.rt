@@ -10,11 +10,11 @@ pub(crate) fn add(count: u64, more: u64) -> Result<u64, NoMemory>
     count.checked_add(more).ok_or(NoMemory)
 }
 
-/// 32 bits count one step more than so many, as a site counts what it does. A history in which they don't wants memory.
+/// A site plans behind fewer than 4,000,000,000 steps, and 32 bits count what it does. A history with more wants memory.
 pub(crate) fn count_on(steps: u64) -> Result<(), NoMemory>
-    ensures { OnOk result (steps < 4294967295) }
+    ensures { OnOk result (steps < 4000000000) }
 {
-    if steps < 4294967295 {
+    if steps < 4000000000 {
         Ok(())
     } else {
         Err(NoMemory)

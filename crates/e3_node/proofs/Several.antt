@@ -89,9 +89,9 @@ left_freed marks o n played low few =
     let within : used_of marks ≤ most_of marks = played.within in
     omega (arith, used, most, within, few)
 
--- 32 bits count the entries with so many more
+-- the entries with so many more are few
 pub counted_freed : (marks : List Mark) (o n : ℕ) → IsPlayed marks → o ≤ last_owner marks → n ≤ (note_of o marks).places →
-    length (entries_of marks) + n ≤ 4294967295
+    length (entries_of marks) + n ≤ 4000000000
 counted_freed marks o n played low few =
     let freed : List Mark = marks ++ mark.Freed o ∷ [] in
     let left : used_of freed + n ≤ most_of freed = left_freed marks o n played low few in

@@ -57,12 +57,12 @@ use Rattle.e3_node.proofs.Pasts.{entries_on, past_on}
 pub own_stands : {rose : List Record} (sc : Scenario) (h : List Entry) (site : ℕ) (s : SiteView) → StandsBy sc h site rose s → SiteStands (now_with rose sc h s.site) s
 own_stands {rose} sc h site s was = let P : ℕ → Type 0 = λ n. SiteStands (now_with rose sc h n) s in subst P (sym was.alike.site_is) was.alike.stands
 
--- of which 32 bits count a step more, where they count the history's entries
-pub own_are_few : {rose : List Record} (sc : Scenario) (h : List Entry) (site : ℕ) (s : SiteView) → StandsBy sc h site rose s → is_up_at h site ≡ true → length h < 2 ^ 32 →
-    length (now_with rose sc h s.site).since < 4294967295
+-- which made fewer steps than the history has entries
+pub own_are_few : {rose : List Record} (sc : Scenario) (h : List Entry) (site : ℕ) (s : SiteView) → StandsBy sc h site rose s → is_up_at h site ≡ true → length h ≤ 4000000000 →
+    length (now_with rose sc h s.site).since < 4000000000
 own_are_few {rose} sc h site s was up few =
     let fewer = steps_are_fewer sc h site up in
-    let P : ℕ → Type 0 = λ n. length (now_with rose sc h n).since < 4294967295 in
+    let P : ℕ → Type 0 = λ n. length (now_with rose sc h n).since < 4000000000 in
     subst P (sym was.alike.site_is) (omega (arith, fewer, few))
 
 -- and what it plans in it is the step that the history makes

@@ -102,7 +102,7 @@ fn add_one<D: Disk>(
     requires order { IsLogInOrder at.site (log_of at.scenario (stepped at.scenario at.history at.site at.done) at.site) }
     requires brief { BriefsAreTold at.scenario (stepped at.scenario at.history at.site at.done) at.site at.rose }
     requires left { used_of shared.old < most_of shared.old }
-    requires few { length at.history + length at.done < 4294967295 }
+    requires few { length at.history + length at.done < 4000000000 }
     ensures owners { last_owner shared.new ≡ last_owner shared.old }
     ensures most { most_of shared.new ≡ most_of shared.old }
     ensures used { used_of shared.new ≤ used_of shared.old + 1 }
@@ -157,7 +157,7 @@ fn add_all<D: Disk>(
     requires orders { (n : ℕ) → n ≤ length inputs.now → IsLogInOrder at.site (log_of at.scenario (stepped at.scenario at.history at.site (take n inputs.now)) at.site) }
     requires briefs { (n : ℕ) → n ≤ length inputs.now → BriefsAreTold at.scenario (stepped at.scenario at.history at.site (take n inputs.now)) at.site at.rose }
     requires left { used_of shared.old + length inputs.now ≤ most_of shared.old }
-    requires few { length at.history + length inputs.now ≤ 4294967295 }
+    requires few { length at.history + length inputs.now ≤ 4000000000 }
     ensures added { (n : ℕ) × AreAdded D.meaning.meters log.now at.scenario at.history at.site inputs.now result n
         × IsBatchAt D.meaning.meters log.now (record at { done = take n inputs.now }) batch.new site.new shared.new }
     ensures refused { OnlyForMemory result }

@@ -29,12 +29,11 @@ fn draft_of(alloc: Global, plan: Plan, input: &Input) -> Result<Draft, NoMemory>
     Ok(Draft { plan, body, inputs })
 }
 
-/// Takes all memory that the step of an input may want at a site in this incarnation, and for its entry. 32 bits count a step
-/// more of it.
+/// Takes all memory that the step of an input may want at a site in this incarnation, and for its entry.
 pub(crate) fn planned(alloc: Global, site: &mut Site, input: &Input) -> Result<Draft, NoMemory>
     ghost now: { Incarnation }
     requires stands { Stands now site.old }
-    requires few { length now.since < 4294967295 }
+    requires few { length now.since < 4000000000 }
     ensures ready { IfOk result (IsReady now input.now site.old site.new) }
     ensures still { IsAsBefore site.old site.new }
 {
@@ -53,7 +52,7 @@ pub(crate) fn prepare(
 ) -> Result<Draft, NoMemory>
     ghost now: { Incarnation }
     requires stands { Stands now site.old }
-    requires few { length now.since < 4294967295 }
+    requires few { length now.since < 4000000000 }
     ensures ready { IfOk result (IsReady now input.now site.old site.new) }
     ensures still { IsAsBefore site.old site.new }
 {
@@ -70,7 +69,7 @@ pub(crate) fn prepare_by_turns(
 ) -> Result<Draft, NoMemory>
     ghost now: { Incarnation }
     requires stands { Stands now site.old }
-    requires few { length now.since < 4294967295 }
+    requires few { length now.since < 4000000000 }
     ensures ready { IfOk result (IsReady now input.now site.old site.new) }
     ensures still { IsAsBefore site.old site.new }
 {

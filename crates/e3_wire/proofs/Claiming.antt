@@ -35,7 +35,7 @@ pub few_are : (sc : Scenario) (most : ℕ) (es : List Entry) (ms : List Stored) 
 few_are sc most es ms net notes places room spare hr sr nr was =
     let used = used_is sc most es ms was.whole in
     let p = was.places_are in
-    let few : most < 2 ^ 32 = was.stands.played.few in
+    let few : most ≤ 2000000 = was.stands.played.few in
     let within : used_of (marks_from sc most es ms) ≤ most = was.stands.played.within in
     (omega (arith, used, p, within, few), omega (arith, used, p, within, few))
 
@@ -52,14 +52,14 @@ pub room_alone : (sc : Scenario) (most : ℕ) (es : List Entry) (ms : List Store
 room_alone sc most es ms net notes places room spare hr sr nr was =
     let all = room_is_few sc most es ms net notes places room spare hr sr nr was in
     let within : used_of (marks_from sc most es ms) ≤ most = was.stands.played.within in
-    let few : most < 2 ^ 32 = was.stands.played.few in
+    let few : most ≤ 2000000 = was.stands.played.few in
     omega (arith, all, within, few)
 
 pub room_fits : (sc : Scenario) (most : ℕ) (es : List Entry) (ms : List Stored) (net : Traffic) (notes : List Note) (places room spare hr sr nr outs : ℕ) →
     IsKept sc most es ms net notes places room spare hr sr nr → used_of (marks_from sc most es ms) < most → outs < 2 ^ 32 → room + outs < 2 ^ 64
 room_fits sc most es ms net notes places room spare hr sr nr outs was left small =
     let all = room_is_few sc most es ms net notes places room spare hr sr nr was in
-    let few : most < 2 ^ 32 = was.stands.played.few in
+    let few : most ≤ 2000000 = was.stands.played.few in
     omega (arith, all, left, few, small)
 
 -- what is not full has a place more
@@ -86,7 +86,7 @@ none_promised zero = refl
 none_promised (suc n) = let rest = none_promised n in omega (arith, rest)
 
 -- at first nothing is entered and nothing is promised
-pub opened : (sc : Scenario) (most hr sr nr : ℕ) (notes : List Note) → IsGiven sc → most < 2 ^ 32 → notes ≡ replicate (length sc.weights + 1) nothing →
+pub opened : (sc : Scenario) (most hr sr nr : ℕ) (notes : List Note) → IsGiven sc → most ≤ 2000000 → notes ≡ replicate (length sc.weights + 1) nothing →
     IsKept sc most [] [] (fresh (length sc.weights) sc.luck sc.loss sc.repeat) notes 0 0 0 hr sr nr
 opened sc most hr sr nr notes given few noted = record {
   stands = record {

@@ -277,7 +277,7 @@ entered sc most es ms net notes places room spare hr sr nr e was may = record {
         let few = may.few in
         let long : length (entries_of M) ≡ length es = ap length (entries_stored es ms was.whole) in
         let within : length (entries_of M) + promised last M ≤ most = was.stands.played.within in
-        let most_few : most < 2 ^ 32 = was.stands.played.few in
+        let most_few : most ≤ 2000000 = was.stands.played.few in
         omega (arith, f, few, long, within, most_few, some_place, less_places)
 
     all_noted : AreNotes last (M ++ mark.Entered y ∷ []) (set notes e.owner (used_by (note_in notes e) x.act))

@@ -22,12 +22,12 @@ use Rattle.e3_wire.specs.declared.marks.Mark.TheVariants as mark
 use Rattle.e3_wire.specs.Marks.{AreFew, entries_of, last_owner, most_of, note_of, scenario_of, used_of}
 
 -- The scenario of the marks keeps the rules, their history is legal for it, and with the promised places it is no longer
--- than it may be, which 32 bits count, as they count the packets of each promise.
+-- than it may be, which is 2,000,000 entries at most; 32 bits count the packets of each promise.
 pub record IsPlayed (marks : List Mark) : Type 0 where
   pub given : IsGiven (scenario_of marks)
   pub legal : IsLegal (scenario_of marks) (entries_of marks)
   pub within : used_of marks ≤ most_of marks
-  pub few : most_of marks < 2 ^ 32
+  pub few : most_of marks ≤ 2000000
   pub promises : AreFew marks
 
 -- and the network stands for the history

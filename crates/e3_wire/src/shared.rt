@@ -65,6 +65,7 @@ impl Shared {
     /// A history without entries, which may have so many, and its network. Want of memory is the only error.
     pub fn open(alloc: Global, scenario: Scenario, most: u32) -> Result<Shared, NoMemory>
         requires given { IsGiven scenario }
+        requires most { most ≤ 2000000 }
         ensures { IfOk result (λ s. s ≡ mark.Start scenario most ∷ []) }
     {
         let sites = scenario.weights.len();

@@ -43,6 +43,7 @@ impl Wire {
     /// of memory is the only error.
     pub fn open(alloc: Global, scenario: Scenario, most: u32) -> Result<(Wire, WirePass), NoMemory>
         requires given { IsGiven scenario }
+        requires most { most ≤ 2000000 }
         ensures idle { IfOk result (λ r. IsIdle r.0 r.1) }
         ensures owners { IfOk result (λ r. (owners_of r.1 ≡ down_from (length scenario.weights)) × (last_of r.1 ≡ length scenario.weights)) }
         ensures seen { IfOk result (λ r. seen_by r.1 ≡ mark.Start scenario most ∷ []) }

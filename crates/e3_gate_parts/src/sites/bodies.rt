@@ -89,7 +89,7 @@ fn planned(
 ) -> Result<Plan, NoMemory>
     ghost now: { Incarnation }
     requires stands { Stands now site.now }
-    requires few { length now.since < 4294967295 }
+    requires few { length now.since < 4000000000 }
     ensures made { IfOk result (λ plan. plan.step ≡ planned_step now site.now input.now) }
     ensures of_site { IfOk result (λ plan. IsPlanOf plan site.now) }
 {
@@ -147,7 +147,7 @@ fn push_step(
     input: &Input,
 ) -> Result<(), NoMemory>
     requires stand { Stands (record { rose = rose.now; since = since.old }) site.old }
-    requires few { length since.old < 4294967295 }
+    requires few { length since.old < 4000000000 }
     ensures { OnOk result (Stands (record { rose = rose.now; since = since.new }) site.new) }
 {
     let plan = planned(site, rose, since.as_slice(), input)?;
@@ -178,7 +178,7 @@ fn push_steps(
     let owner = site.site();
     let mut since = List::new(alloc);
     for entry in history {
-        if since.len() >= 4294967295 {
+        if since.len() >= 4000000000 {
             return Err(NoMemory);
         }
         if let Some(input) = input_of(owner, entry) {

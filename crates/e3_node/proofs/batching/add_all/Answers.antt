@@ -21,7 +21,7 @@ add_one-requires g c = λ lives live.
     let left : used_of c.args.shared.now + length c.args.inputs.now ≤ most_of c.args.shared.now = c.requires.1.1.1.1.1.1.1.0 in
     let few = c.requires.1.1.1.1.1.1.1.1 in
     let long : length (take at c.args.inputs.now) ≡ at = length-take-le at c.args.inputs.now (omega (arith, low)) in
-    let F : List Input → Type 0 = λ l. length g.at.history + length l < 4294967295 in
+    let F : List Input → Type 0 = λ l. length g.at.history + length l < 4000000000 in
     let far : inputs_in c.loop-input.batch.steps.items ≡ take at c.args.inputs.now =
     inputs_so_far g.D.Disk.meaning.meters c.args.log.now g.at.scenario g.at.history g.at.site g.at.rose g.at.marks g.at.first (take at c.args.inputs.now) c.loop-input.batch c.loop-input.site
     c.loop-input.shared inv.added in

@@ -30,7 +30,7 @@ planned-requires g c =
     let long = stepped_long g.at.scenario g.at.history g.at.site g.at.done in
     let few = c.requires.1.1.1.1.1.1.1.1 in
     let P : ℕ → Type 0 = λ n. Stands (now_with g.at.rose g.at.scenario h n) c.args.site.now in
-    let Q : ℕ → Type 0 = λ n. length (now_with g.at.rose g.at.scenario h n).since < 4294967295 in
+    let Q : ℕ → Type 0 = λ n. length (now_with g.at.rose g.at.scenario h n).since < 4000000000 in
     (subst P (sym alike.site_is) alike.stands, subst Q (sym alike.site_is) (omega (arith, fewer, long, few)))
 
 pub returns-clause-added : goal.returns-clause-added

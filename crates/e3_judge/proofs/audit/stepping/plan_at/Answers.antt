@@ -11,7 +11,7 @@ plan-requires g c =
     let few = steps_are_few c.args.prefix.now.scenario.now c.args.prefix.now.entries.now c.args._site in
     let room = c.in_ok-count_on.ensures in (
       subst (λ (i : Incarnation). Stands i c.args.up.now) (sym c.requires.1) c.requires.0.stands,
-      subst (λ (i : Incarnation). length i.since < 4294967295) (sym c.requires.1) (omega (arith, few, room)),
+      subst (λ (i : Incarnation). length i.since < 4000000000) (sym c.requires.1) (omega (arith, few, room)),
     )
 
 pub returns-clause-made : goal.returns-clause-made

@@ -11,5 +11,5 @@ add_undecided_in-requires c =
     let steps : length c.in_ok-life.life.steps ≡ length c.as_slice-2.result.now = ap (λ (life : Life). length life.steps) c.in_ok-life.ensures ∙ life_steps now in
     let since : length c.as_slice-2.result.now ≡ length c.in_ok-incarnation.incarnation.since = ap (λ (l : List SiteStep). length l) c.as_slice-2.ensures in
     let count : c.len.result ≡ length c.in_ok-incarnation.incarnation.since = c.len.ensures in
-    let room : c.len.result < 4294967295 = c.in_ok-count_on.ensures in
+    let room : c.len.result < 4000000000 = c.in_ok-count_on.ensures in
     omega (arith, steps, since, count, room)

@@ -11,7 +11,7 @@ overflow_add-used c =
     let s = c.self.inside in
     let used = used_is s.scenario s.most s.store.history.entries s.store.stored.items c.self.invariant.whole in
     let within : used_of (marks_from s.scenario s.most s.store.history.entries s.store.stored.items) ≤ s.most = c.self.invariant.stands.played.within in
-    let few : s.most < 2 ^ 32 = c.self.invariant.stands.played.few in
+    let few : s.most ≤ 2000000 = c.self.invariant.stands.played.few in
     omega (arith, used, within, c.self.invariant.places_are, c.len.ensures, few)
 
 pub returns : goal.returns
