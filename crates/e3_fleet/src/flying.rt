@@ -68,6 +68,7 @@ fn open_wire<R: Wait>(
     most: u32,
 ) -> Result<Opened, NoMemory>
     requires given { IsGiven scenario.now }
+    requires most { most ≤ 2000000 }
     ensures taken { IfOk result (λ o. IsTaken o.wire o.pass o.shared) }
     ensures shared { IfOk result (λ o. o.shared ≡ mark.Start scenario.now most ∷ []) }
     ensures played { IfOk result (λ o. IsPlayed o.shared) }
@@ -88,6 +89,7 @@ fn open<D: Disk + Drill + Drop, R: Wait>(
 ) -> Result<Opened, NoMemory>
     requires empty { workers.old.items ≡ [] }
     requires given { IsGiven scenario.now }
+    requires most { most ≤ 2000000 }
     requires enough { length scenario.now.weights ≤ length disks.old.items }
     requires blank { AreBlank D.meaning disks.old.items }
     ensures seated { AreSeated D.meaning scenario.now [] (nodes_of workers.new.items) }
@@ -104,7 +106,7 @@ fn open<D: Disk + Drill + Drop, R: Wait>(
 
 impl<D: Disk + Drill + Drop> Fleet<D> {
     /// The sites of a scenario over the first of these disks, before anything happened, with a history of so many entries at
-    /// most. Want of memory is the only error, and the disks are lost then.
+    /// most, 2,000,000 or fewer. Want of memory is the only error, and the disks are lost then.
     pub fn open<R: Wait>(
         rt: &R,
         alloc: Global,
@@ -113,6 +115,7 @@ impl<D: Disk + Drill + Drop> Fleet<D> {
         most: u32,
     ) -> Result<Fleet<D>, NoMemory>
         requires given { IsGiven scenario.now }
+        requires most { most ≤ 2000000 }
         requires enough { length scenario.now.weights ≤ length disks.items }
         requires blank { AreBlank D.meaning disks.items }
         ensures stands { IfOk result (λ f. Stands D.meaning f) }
