@@ -10,7 +10,8 @@ pub(crate) fn add(count: u64, more: u64) -> Result<u64, NoMemory>
     count.checked_add(more).ok_or(NoMemory)
 }
 
-/// A site plans behind fewer than 4,000,000,000 steps, and 32 bits count what it does. A history with more wants memory.
+/// A site plans behind fewer than 4,000,000,000 steps, and 32 bits count what it does. A history with as many or more wants
+/// memory.
 pub(crate) fn count_on(steps: u64) -> Result<(), NoMemory>
     ensures { OnOk result (steps < 4000000000) }
 {

@@ -17,8 +17,8 @@ pub fn packets_fall_in_rank()
     ensures { PacketRanksFall }
 {}
 
-/// A step sends an answer to each request that waits at most, and beside them a few messages to each of the sites that it sends
-/// to.
+/// The packets of a step are hardly more than the steps of its incarnation, where each list of sites to which it may send has
+/// at most 64.
 pub fn steps_send_few()
     ensures { StepsSendFew }
 {}

@@ -50,9 +50,8 @@ pub enum InputFault {
     /// The history has as many entries, with the places that are promised to other workers, as it may have entries. It comes of
     /// no batch, whose places were promised before.
     HistoryFull,
-    /// There was no memory, or a count has no room: all packets in 64 bits, those of a step or those that are promised in 32. It
-    /// comes before the frame is written; of a batch that it cut short, the inputs before it have their frame. A log without
-    /// room for the frame is no cause of it.
+    /// There was no memory. It comes before the frame is written; of a batch that it cut short, the inputs before it have their
+    /// frame. A log without room for the frame is no cause of it.
     NoMemory,
     /// The frame of the step was not written, or may not have been: the site is down now.
     Fell { why: Why },

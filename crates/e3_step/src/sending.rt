@@ -1,4 +1,5 @@
-// That the sites to which a step may send are few: a law of each input, by the sets that it reads.
+// That the sites to which a step may send are few: what says so is how many sites each set has, of the input and of the election
+// or the round that its message is for. Nothing else comes of counting them.
 ghost use Rattle.std.specs.Prelude.{IfOk};
 ghost use Rattle.e3_laws.specs.steps.Sending.{HasFewMembers, HasFewReceivers, SendsToFew, TakesFew};
 
@@ -22,7 +23,7 @@ fn few_receivers<P: Past>(p: &P, t: &Txn)
     }
 }
 
-// Of a message, and of what replies to it: an election and a round are read for their own messages alone.
+// Of a message, and of what it makes the site have for itself: an election and a round are read for their own messages alone.
 fn sends_to_few<P: Past>(p: &P, m: &Message) -> Result<(), NoMemory>
     ensures { IfOk result (λ u. SendsToFew (P.at p.now) m.now) }
 {
@@ -44,7 +45,7 @@ fn sends_to_few<P: Past>(p: &P, m: &Message) -> Result<(), NoMemory>
     Ok(())
 }
 
-/// The law that an input has the site send to few sites. Want of memory is the only error.
+/// That an input has the site send to few sites. Want of memory is the only error.
 pub fn takes_few<P: Past>(p: &P, input: &Input) -> Result<(), NoMemory>
     ensures { IfOk result (λ u. TakesFew (P.at p.now) input.now) }
 {

@@ -62,7 +62,7 @@ impl Chronicle for Shared {
 }
 
 impl Shared {
-    /// A history without entries, which may have so many, and its network. Want of memory is the only error.
+    /// A history without entries, which may have so many, 2,000,000 at most, and its network. Want of memory is the only error.
     pub fn open(alloc: Global, scenario: Scenario, most: u32) -> Result<Shared, NoMemory>
         requires given { IsGiven scenario }
         requires most { most ≤ 2000000 }

@@ -39,8 +39,8 @@ impl Model for Wire {
 }
 
 impl Wire {
-    /// A wire with a history without entries, which may have so many, and its first pass, which owns 0 and all sites. Want
-    /// of memory is the only error.
+    /// A wire with a history without entries, which may have so many, 2,000,000 at most, and its first pass, which owns 0 and
+    /// all sites. Want of memory is the only error.
     pub fn open(alloc: Global, scenario: Scenario, most: u32) -> Result<(Wire, WirePass), NoMemory>
         requires given { IsGiven scenario }
         requires most { most ≤ 2000000 }

@@ -20,7 +20,7 @@ ghost use Rattle.e3_worked.specs.OneSiteIsAQuorum.{one_site_is_a_quorum, one_sit
 ghost use Rattle.e3_worked.specs.OneWrite.{one_write, one_write_history, one_write_outcome, one_write_text, one_write_report, one_write_trace};
 ghost use Rattle.e3_worked.specs.RestartBeforeTheVote.{restart_before_the_vote, restart_before_the_vote_history, restart_before_the_vote_outcome, restart_before_the_vote_text, restart_before_the_vote_report, restart_before_the_vote_trace};
 ghost use Rattle.e3_worked.specs.RestartDooms.{restart_dooms, restart_dooms_history, restart_dooms_outcome, restart_dooms_text, restart_dooms_report, restart_dooms_trace};
-ghost use Rattle.e3_worked.specs.SixtyFourOperations.{sixty_four_operations, sixty_four_operations_history, sixty_four_operations_outcome, sixty_four_operations_text};
+ghost use Rattle.e3_worked.specs.SixtyFourOperations.{sixty_four_operations, sixty_four_operations_history, sixty_four_operations_outcome, sixty_four_operations_text, sixty_four_operations_report};
 ghost use Rattle.e3_worked.specs.SplitInHalves.{split_in_halves, split_in_halves_history, split_in_halves_text, split_in_halves_report, split_in_halves_trace};
 ghost use Rattle.e3_worked.specs.ThreeSites.{three_sites, three_sites_history, three_sites_outcome, three_sites_text, three_sites_report, three_sites_trace};
 ghost use Rattle.e3_worked.specs.ThreeSitesEveryPacketTwice.{three_sites_every_packet_twice, three_sites_every_packet_twice_history, three_sites_every_packet_twice_text};
@@ -122,6 +122,7 @@ pub fn are_reported()
     ensures one_write { report_of one_write one_write_history false ≡ one_write_report }
     ensures restart_before_the_vote { report_of restart_before_the_vote restart_before_the_vote_history false ≡ restart_before_the_vote_report }
     ensures restart_dooms { report_of restart_dooms restart_dooms_history false ≡ restart_dooms_report }
+    ensures sixty_four_operations { report_of sixty_four_operations sixty_four_operations_history false ≡ sixty_four_operations_report }
     ensures split_in_halves { report_of split_in_halves split_in_halves_history false ≡ split_in_halves_report }
     ensures three_sites { report_of three_sites three_sites_history false ≡ three_sites_report }
     ensures three_sites_every_packet_twice { report_of three_sites_every_packet_twice three_sites_every_packet_twice_history false ≡ three_sites_report }

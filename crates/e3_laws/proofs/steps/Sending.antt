@@ -1,4 +1,4 @@
--- A step sends few packets: each rule sends to each of its sites once or twice, and one decision at most has requests done.
+-- A step sends few packets: a rule sends to each of its sites three times at most, and one decision at most has requests done.
 use Rattle.std.proofs.Common.{◌≡◌, ◌⊎◌, inl, inr, ◌==◌, ◌&&◌, ◌≤◌, ◌+◌, ◌*◌, ◌++◌, ◌∷◌, [], ℕ, zero, suc, Bool, true, false, not, List, Option, Some, None, refl, sym, subst, ap, ◌∙◌, arith, length, length-append, fold, drop, map, append_assoc, is_none, if◌then◌else◌, nat_lt, nat_le}
 use Rattle.std.specs.List.{AllByRecursion as Each, list_any}
 use Rattle.std.proofs.lemmas.Grind.{fold-append}
@@ -46,7 +46,7 @@ use Rattle.e3_world.specs.Steps.{and_ask, handled, on_commit, on_elect, on_expir
 use Rattle.e3_world.specs.VoteRules.{on_vote_req, on_yes, vote_rule}
 use Rattle.e3_world.specs.Votes.{yes_votes}
 use Rattle.e3_world.proofs.Turns.{self}
-use Rattle.e3_laws.specs.steps.Sending.{IsFew, HasFewMembers, HasFewReceivers, SendsToFew, StepsSendFew, TakesFew}
+use Rattle.e3_laws.specs.steps.Sending.{HasFewSites, HasFewMembers, HasFewReceivers, SendsToFew, StepsSendFew, TakesFew}
 use Rattle.e3_laws.proofs.steps.Deciding.{no_grants, present}
 use Rattle.e3_laws.proofs.steps.Freed.{grants_few}
 use Rattle.e3_laws.proofs.steps.Lists.{dropped}
@@ -89,7 +89,7 @@ all_sent a m (s ∷ sites) made = by (λ now. all_sent a m sites now) (s == a.si
     by rest false is = rw is (more (1 + length sites) (suc (length sites)) made _ (omega arith)
         (behind 1 (length sites) made (and_send a s (m s) made) _ (sent a s (m s) made is) (rest (and_send a s (m s) made))))
 
-cast : (a : At) (sites : List ℕ) (m : Message) (made : Made) → IsFew sites → Out 64 made (and_cast a sites m made)
+cast : (a : At) (sites : List ℕ) (m : Message) (made : Made) → HasFewSites sites → Out 64 made (and_cast a sites m made)
 cast a sites m made few = more (length sites) 64 made _ few (all_sent a (λ to. m) sites made)
 
 -- ---- the rules without a reply
@@ -108,22 +108,22 @@ may_be_decided a t dir made = by (may_decide a t dir made)
     by true = decided a t dir made
     by false = none made
 
-aborted : (a : At) (t : Txn) (made : Made) → IsFew t.sites → Out 64 made (and_abort a t made)
+aborted : (a : At) (t : Txn) (made : Made) → HasFewSites t.sites → Out 64 made (and_abort a t made)
 aborted a t made few = behind 0 64 made (and_decide a t Abort made) _ (decided a t Abort made) (cast a t.sites (msg.Decide t Abort) (and_decide a t Abort made) few)
 
-aborted_for : (a : At) (t : Txn) (why : Told) (made : Made) → IsFew t.sites → Out 64 made (and_abort_for a t why made)
+aborted_for : (a : At) (t : Txn) (why : Told) (made : Made) → HasFewSites t.sites → Out 64 made (and_abort_for a t why made)
 aborted_for a t why made few =
     let now : Made = and_tell why (and_record (log.Decision t Abort) made) in
     behind 0 64 made now _ (record { outs = omega arith; own = refl }) (cast a t.sites (msg.Decide t Abort) now few)
 
-may_be_aborted : (a : At) (t : Txn) (made : Made) → IsFew t.sites → Out 64 made (if may_abort a t made then and_abort a t made else made)
+may_be_aborted : (a : At) (t : Txn) (made : Made) → HasFewSites t.sites → Out 64 made (if may_abort a t made then and_abort a t made else made)
 may_be_aborted a t made few = by (may_abort a t made)
   where
     by : (b : Bool) → Out 64 made (if b then and_abort a t made else made)
     by true = aborted a t made few
     by false = more 0 64 made made (omega arith) (none made)
 
-attempted : (a : At) (t : Txn) (n : ℕ) (dir : Dir) (to : List ℕ) (made : Made) → IsFew to → Out 64 made (and_attempt a t n dir to made)
+attempted : (a : At) (t : Txn) (n : ℕ) (dir : Dir) (to : List ℕ) (made : Made) → HasFewSites to → Out 64 made (and_attempt a t n dir to made)
 attempted a t n dir to made few = by (may_attempt a t n made) refl
   where
     now : Made
@@ -138,7 +138,7 @@ attempted a t n dir to made few = by (may_attempt a t n made) refl
     by true is = rw is (alone (is_quorum a.weights (a.site ∷ []) t.sites) refl)
     by false is = rw is (more 0 64 made made (omega arith) (none made))
 
-concluded : (a : At) (t : Txn) (n : ℕ) (group : List ℕ) (reports : List SiteReport) (made : Made) → IsFew group → Out 64 made (and_verdict a t n group reports made)
+concluded : (a : At) (t : Txn) (n : ℕ) (group : List ℕ) (reports : List SiteReport) (made : Made) → HasFewSites group → Out 64 made (and_verdict a t n group reports made)
 concluded a t n group reports made few = by (verdict_of a.weights t.sites reports) refl
   where
     telling : Verdict → Made
@@ -157,7 +157,7 @@ concluded a t n group reports made few = by (verdict_of a.weights t.sites report
     by verdict.PreAbort is = rw is (attempt verdict.PreAbort Abort)
     by (verdict.Block have total) is = rw is (more 0 64 made _ (omega arith) (said (told.Verdict t n (verdict.Block have total)) made))
 
-joined : (a : At) (t : Txn) (e : Election) (made : Made) → IsFew e.group → Out 128 made (and_join a t e made)
+joined : (a : At) (t : Txn) (e : Election) (made : Made) → HasFewSites e.group → Out 128 made (and_join a t e made)
 joined a t e made few = by (all_heard e && nat_lt (greatest_heard e) 4294967295 && nat_le (elected_now a t made) (greatest_heard e)) refl
   where
     n : ℕ
@@ -183,16 +183,16 @@ joined a t e made few = by (all_heard e && nat_lt (greatest_heard e) 4294967295 
 -- whatever an election is, where there is one, its group is few
 abbrev Few : Option Election → Type 0
 Few None = Unit {0}
-Few (Some e) = IsFew e.group
+Few (Some e) = HasFewSites e.group
 
-either : (b : Bool) (e : Election) → IsFew e.group → Few (if b then Some e else None)
+either : (b : Bool) (e : Election) → HasFewSites e.group → Few (if b then Some e else None)
 either true e few = few
 either false e few = tt
 
-heard_few : (e : Election) (f : ℕ) (call : Call) (elected : ℕ) → IsFew e.group → Few (hear e f call elected)
+heard_few : (e : Election) (f : ℕ) (call : Call) (elected : ℕ) → HasFewSites e.group → Few (hear e f call elected)
 heard_few e f call elected few = either (same_call e.call call && has_site e.group f && not (list_any (λ h. h.site == f) e.heard)) _ few
 
-reported_few : (e : Election) (n : ℕ) (report : SiteReport) → IsFew e.group → Few (take_report e n report)
+reported_few : (e : Election) (n : ℕ) (report : SiteReport) → HasFewSites e.group → Few (take_report e n report)
 reported_few e n report few = by e.number refl
   where
     by : (o : Option ℕ) → e.number ≡ o → Few (take_report e n report)
@@ -213,7 +213,7 @@ last a f t call elected made few = by (election_in_progress a.site a.life.inc t 
 reported : (a : At) (t : Txn) (n : ℕ) (report : SiteReport) (made : Made) → HasFewMembers a t → Out 64 made (on_report a t n report made)
 reported a t n report made few = by (election_in_progress a.site a.life.inc t a.life.steps) refl
   where
-    whole : (x : Election) (b : Bool) → IsFew x.group → Out 64 made (if b then and_verdict a t n x.group x.reports made else made)
+    whole : (x : Election) (b : Bool) → HasFewSites x.group → Out 64 made (if b then and_verdict a t n x.group x.reports made else made)
     whole x true all = concluded a t n x.group x.reports made all
     whole x false all = more 0 64 made made (omega arith) (none made)
 
@@ -228,14 +228,14 @@ reported a t n report made few = by (election_in_progress a.site a.life.inc t a.
 acknowledged : (a : At) (f : ℕ) (t : Txn) (n : ℕ) (dir : Dir) (made : Made) → HasFewReceivers a t → Out 64 made (on_ack a f t n dir made)
 acknowledged a f t n dir made few = by (round_in_progress a.site t a.life.steps) refl
   where
-    counted_few : (r : Round) → IsFew r.to → IsFew (count_ack r f n dir).to
+    counted_few : (r : Round) → HasFewSites r.to → HasFewSites (count_ack r f n dir).to
     counted_few r all = either (r.n == n && same_dir r.dir dir && has_site r.to f && not (has_site r.acked f))
       where
-        either : (b : Bool) → IsFew (if b then record r { acked = r.acked ++ f ∷ [] } else r).to
+        either : (b : Bool) → HasFewSites (if b then record r { acked = r.acked ++ f ∷ [] } else r).to
         either true = all
         either false = all
 
-    acked : (r : Round) (b : Bool) → IsFew r.to → Out 64 made (if b then and_cast a r.to (msg.Decide t dir) (and_decide a t dir made) else made)
+    acked : (r : Round) (b : Bool) → HasFewSites r.to → Out 64 made (if b then and_cast a r.to (msg.Decide t dir) (and_decide a t dir made) else made)
     acked r true all = behind 0 64 made (and_decide a t dir made) _ (decided a t dir made) (cast a r.to (msg.Decide t dir) (and_decide a t dir made) all)
     acked r false all = more 0 64 made made (omega arith) (none made)
 
@@ -243,7 +243,7 @@ acknowledged a f t n dir made few = by (round_in_progress a.site t a.life.steps)
     by None is = rw is (more 0 64 made made (omega arith) (none made))
     by (Some r) is = rw is (acked (count_ack r f n dir) _ (counted_few r (few r is)))
 
-agreed : (a : At) (t : Txn) (made : Made) → IsFew t.sites → Out 64 made (on_yes a t made)
+agreed : (a : At) (t : Txn) (made : Made) → HasFewSites t.sites → Out 64 made (on_yes a t made)
 agreed a t made few = by (is_coordinator a t && same_state (state_now a t made) W && elected_now a t made == 1) refl
   where
     all : (b : Bool) → Out 64 made (if b then and_attempt a t 1 Commit t.sites made else made)
@@ -259,7 +259,7 @@ agreed a t made few = by (is_coordinator a t && same_state (state_now a t made) 
     by true is = counted (yes_votes t (steps_now a made)) refl is
     by false is = rw is (more 0 64 made made (omega arith) (none made))
 
-died : (a : At) (t older : Txn) (made : Made) → IsFew t.sites → Out 64 made (on_died a t older made)
+died : (a : At) (t older : Txn) (made : Made) → HasFewSites t.sites → Out 64 made (on_died a t older made)
 died a t older made few = by (may_abort a t made) (is_present a t) refl refl
   where
     by : (b c : Bool) → may_abort a t made ≡ b → is_present a t ≡ c → Out 64 made (on_died a t older made)
@@ -267,7 +267,7 @@ died a t older made few = by (may_abort a t made) (is_present a t) refl refl
     by true false is here = rw (is, here) (aborted a t made few)
     by false c is here = rw is (more 0 64 made made (omega arith) (none made))
 
-answered : (a : At) (f : ℕ) (t : Txn) (n inc : ℕ) (answer : Answer) (made : Made) → IsFew t.sites → Out 64 made (on_done a f t n inc answer made)
+answered : (a : At) (f : ℕ) (t : Txn) (n inc : ℕ) (answer : Answer) (made : Made) → HasFewSites t.sites → Out 64 made (on_done a f t n inc answer made)
 answered a f t n inc answer made few = by (is_coordinator a t && is_present a t && open_now a t made) refl
   where
     is_unanswered : Option ℕ → Bool
@@ -349,7 +349,7 @@ one_new (x ∷ records) r is = one_new records r is
 -- ---- the rules with a reply
 
 -- what is left is not decided behind the attempt, the join or the vote of a rule
-requested : (a : At) (f : ℕ) (t : Txn) (n : ℕ) (op : Op) (made : Made) → made.own ≡ [] → IsFew t.sites → Goes a 128 made (on_do a f t n op made)
+requested : (a : At) (f : ℕ) (t : Txn) (n : ℕ) (op : Op) (made : Made) → made.own ≡ [] → HasFewSites t.sites → Goes a 128 made (on_do a f t n op made)
 requested a f t n op made start few = by (state_now a t made) refl
   where
     stays : Goes a 128 made made
@@ -420,7 +420,7 @@ closed a t dir made =
     ∙ ap (is_undecided t) (sym (append_assoc a.life.log made.records (log.Decision t dir ∷ [])))
     ∙ decided_behind t dir (a.life.log ++ made.records)
 
-voted : (a : At) (f : ℕ) (t : Txn) (inc count : ℕ) (made : Made) → made.own ≡ [] → IsFew t.sites → Goes a 128 made (on_vote_req a f t inc count made)
+voted : (a : At) (f : ℕ) (t : Txn) (inc count : ℕ) (made : Made) → made.own ≡ [] → HasFewSites t.sites → Goes a 128 made (on_vote_req a f t inc count made)
 voted a f t inc count made start few = by (state_now a t made) (elected_now a t made == 1) refl refl
   where
     stays : Goes a 128 made made
@@ -436,10 +436,10 @@ voted a f t inc count made start few = by (state_now a t made) (elected_now a t 
     refused true is =
         let out = decided a t Abort made in
         rw is (inr (record {
-      outs = (let o = out.outs in omega (arith, o));
-      quiet = (let own : (and_decide a t Abort made).own ++ msg.Vote t false ∷ [] ≡ msg.Vote t false ∷ [] = ap (λ (l : List Message). l ++ msg.Vote t false ∷ []) (out.own ∙ start) in
-          subst (Each (quiet_in a (and_decide a t Abort made).records)) (sym own) (closed a t Abort made, tt));
-    }))
+          outs = (let o = out.outs in omega (arith, o));
+          quiet = (let own : (and_decide a t Abort made).own ++ msg.Vote t false ∷ [] ≡ msg.Vote t false ∷ [] = ap (λ (l : List Message). l ++ msg.Vote t false ∷ []) (out.own ∙ start) in
+              subst (Each (quiet_in a (and_decide a t Abort made).records)) (sym own) (closed a t Abort made, tt));
+        }))
     refused false is = goes_out a 128 made _ start (more 1 128 made _ (omega arith)
         (behind 0 1 made (and_decide a t Abort made) _ (decided a t Abort made) (sent a f (msg.Vote t false) (and_decide a t Abort made) is)))
 
@@ -474,7 +474,7 @@ message a f (msg.Decide t dir) made start few = goes_out a 128 made _ start (mor
 
 -- ---- each input
 
-committed : (a : At) (t : Txn) (made : Made) → IsFew t.sites → Out 64 made (on_commit a t made)
+committed : (a : At) (t : Txn) (made : Made) → HasFewSites t.sites → Out 64 made (on_commit a t made)
 committed a t made few = by (elected_now a t made == 1) refl
   where
     vote : Out 0 made (and_vote a t made)
@@ -484,13 +484,13 @@ committed a t made few = by (elected_now a t made == 1) refl
     alone [] is first = rw (first, is) (behind 0 64 made (and_vote a t made) _ vote (attempted a t 1 Commit t.sites (and_vote a t made) few))
     alone (s ∷ ss) is first = rw (first, is) (subst (λ (l : List ℕ). Out 64 made (fold (and_ask a t) (and_vote a t made) l)) is
         (behind 0 64 made (and_vote a t made) _ vote (more (length t.sites) 64 (and_vote a t made) _ few
-            (all_sent a (λ s. msg.VoteReq t (expected a.site a.life.inc t a.life.steps s).inc (expected a.site a.life.inc t a.life.steps s).count) t.sites (and_vote a t made)))))
+        (all_sent a (λ s. msg.VoteReq t (expected a.site a.life.inc t a.life.steps s).inc (expected a.site a.life.inc t a.life.steps s).count) t.sites (and_vote a t made)))))
 
     by : (b : Bool) → (elected_now a t made == 1) ≡ b → Out 64 made (on_commit a t made)
     by true is = alone (others a.site t.sites) refl is
     by false is = rw is (aborted a t made few)
 
-expired : (a : At) (t : Txn) (made : Made) → IsFew t.sites → Out 64 made (on_expire a t made)
+expired : (a : At) (t : Txn) (made : Made) → HasFewSites t.sites → Out 64 made (on_expire a t made)
 expired a t made few = by (may_abort a t made) (state_now a t made) refl refl
   where
     kept : (st : State) → Out 64 made (and_tell (told.Kept t st) made)
@@ -505,7 +505,7 @@ expired a t made few = by (may_abort a t made) (state_now a t made) refl refl
     by false C is state = rw (is, state) (kept C)
     by false A is state = rw (is, state) (kept A)
 
-called : (a : At) (t : Txn) (group : List ℕ) (made : Made) → IsFew group → Out 192 made (on_elect a t group made)
+called : (a : At) (t : Txn) (group : List ℕ) (made : Made) → HasFewSites group → Out 192 made (on_elect a t group made)
 called a t group made few =
     let e : Election = begun a.site (next_call a.life.inc a.life.steps) group (elected_now a t made) in
     behind 64 128 made (and_cast a group (msg.Ask t e.call) made) _ (cast a group (msg.Ask t e.call) made few) (joined a t e (and_cast a group (msg.Ask t e.call) made) few)

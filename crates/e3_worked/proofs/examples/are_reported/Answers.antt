@@ -50,6 +50,10 @@ pub returns-clause-restart_dooms : goal.returns-clause-restart_dooms
 unfolding report_opens
 returns-clause-restart_dooms c = refl
 
+pub returns-clause-sixty_four_operations : goal.returns-clause-sixty_four_operations
+unfolding report_opens
+returns-clause-sixty_four_operations c = refl
+
 pub returns-clause-split_in_halves : goal.returns-clause-split_in_halves
 unfolding report_opens
 returns-clause-split_in_halves c = refl
