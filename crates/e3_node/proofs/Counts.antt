@@ -5,7 +5,6 @@ use Rattle.std.proofs.lemmas.List.Filters.{length-filter_both}
 use Rattle.std.proofs.lemmas.Bool.{leb-false, leb-true}
 use Rattle.std.proofs.lemmas.Option.{same_Some}
 use Rattle.e3_codec.proofs.Records.{one_list}
-use Rattle.e3_codec.specs.Fields.{AllCanBeReadBack}
 use Rattle.e3_disk.specs.Meaning.{Meaning}
 use Rattle.e3_laws.proofs.brief.Laws.{same_alike}
 use Rattle.e3_laws.specs.brief.Sets.{LoggedSitesAreSets}
@@ -26,7 +25,6 @@ use Rattle.e3_node.specs.site_log.Bodies.{IsLogged, bodies_in, joined}
 use Rattle.e3_node.specs.site_log.Ends.{MayTurn}
 use Rattle.e3_node.specs.declared.site_log.writing.Short.{Short}
 use Rattle.e3_node.proofs.site_log.Frames.{spells}
-use Rattle.e3_types.specs.Spelling.{spelling}
 use Rattle.e3_types.specs.declared.entries.Act.{Act}
 use Rattle.e3_types.specs.declared.entries.Act.TheVariants.{Step, Fall, Rise, RiseFall, Miss, Cut, Drop, Parts, Line}
 use Rattle.e3_types.specs.declared.entries.Entry.{Entry}
@@ -43,13 +41,11 @@ use Rattle.e3_wire.specs.Claims.{APass}
 use Rattle.e3_wire.specs.Marks.{belongs, entries_of, last_owner, most_of, note_of, promised, used_of}
 use Rattle.e3_wire.specs.Wires.{IsPlayed}
 use Rattle.e3_wire.specs.declared.marks.Mark.{Mark}
-use Rattle.e3_world.specs.Brief.{brief}
 use Rattle.e3_world.specs.Given.{IsGiven}
 use Rattle.e3_world.specs.Items.{is_up_at}
 use Rattle.e3_world.specs.Legal.{Guard, IsLegal, LegalAfter, made_by}
 use Rattle.e3_world.specs.Logs.{logged_inc}
 use Rattle.e3_world.specs.Moves.{Move, Past, Rose, Tail, kept_moves, left_by, log_by, moves_of, open_tail, own_entries, past_by, past_of, rise_records}
-use Rattle.e3_world.specs.Orderly.{IsOrderly}
 use Rattle.e3_world.specs.Progress.{up_behind}
 use Rattle.e3_world.proofs.Pushes.{legal_push, past_push}
 use Rattle.e3_world.proofs.Readings.{own_other, own_same, up_other, up_same}

@@ -5,10 +5,12 @@ use Rattle.e3_codec.specs.Fields.{AllCanBeReadBack}
 use Rattle.e3_disk.specs.Meters.{Meters}
 use Rattle.e3_log.specs.Stands.{LogState}
 use Rattle.e3_node.specs.Batches.{FrameTakes, unnumbered_steps, stepped}
-use Rattle.e3_node.specs.Briefing.{HasBody}
+use Rattle.e3_node.specs.Briefing.{HasBody, IsBriefOf}
 use Rattle.e3_node.specs.Several.{claims_for}
 use Rattle.e3_node.specs.Telling.{IsOfSite}
 use Rattle.e3_node.specs.declared.batching.Batch.{Batch}
+use Rattle.e3_node.specs.declared.batching.Lengthened.{Lengthened}
+use Rattle.e3_node.specs.declared.drafts.Draft.{Draft}
 use Rattle.e3_node.specs.declared.briefing.Room.{Room}
 use Rattle.e3_node.specs.declared.briefing.Room.TheVariants as room
 use Rattle.e3_node.specs.declared.fault.InputFault.{InputFault}
@@ -67,6 +69,21 @@ pub record IsBatch {D : Type 0} (meters : D → Meters) (on_disk : LogState D) (
   pub short : IsShortIf site (log_of sc history site) batch.short
   pub body : HasBody batch.short
   pub due : records_by sc history site done ≢ [] → HasRoomUnlessShort meters on_disk (log_of sc history site) batch.short (length batch.body)
+
+-- A batch has these records, this body and this short log with the step of a draft: a short log is one of the log of which the
+-- site tells the brief, while nothing is recorded; and the log is turned for the batch unless its frame has room.
+pub record IsLonger {D : Type 0} (meters : D → Meters) (on_disk : LogState D) (batch : Batch) (s : SiteView) (draft : Draft) (longer : Lengthened) : Type 0 where
+  pub records : longer.records ≡ batch.records ++ draft.plan.step.records
+  pub body : longer.body ≡ batch.body ++ draft.body
+  pub short : (log : List Record) → (batch.records ≡ [] → IsBriefOf s log) → IsShortIf s.site log longer.short
+  pub has_body : HasBody longer.short
+  pub due : (log : List Record) → (batch.records ≡ [] → IsBriefOf s log) → longer.records ≢ [] → batch.short ≡ None →
+      HasRoomUnlessShort meters on_disk log longer.short (length longer.body)
+
+-- A batch records something and its log is not turned, and behind the log its frame has no room for what the step of a draft
+-- records.
+abbrev pub IsFull : {D : Type 0} → (D → Meters) → LogState D → Batch → Draft → Type 0
+IsFull meters on_disk batch draft = (batch.records ≢ []) × (batch.short ≡ None) × (HasRoom meters on_disk (length (batch.body ++ draft.body)) → ⊥)
 
 -- want of memory is the only refusal
 abbrev pub OnlyForMemory : {A : Type 0} → Result A InputFault → Type 0

@@ -1,7 +1,7 @@
 // Several packets of a site that is up, by its worker: their steps have one frame.
-ghost use Rattle.std.specs.Prelude.{◌≡◌, ◌≤◌, ◌<◌, ◌+◌, ◌++◌, ◌∷◌, [], None, true, false, ℕ, length, take, vec_capacity, IfOk, OnOk, OnErr, List as Items};
+ghost use Rattle.std.specs.Prelude.{◌≡◌, ◌≤◌, ◌<◌, ◌+◌, ◌^◌, ◌++◌, ◌∷◌, [], None, true, false, ℕ, length, take, vec_capacity, IfOk, IfSome, OnOk, OnErr, List as Items};
 ghost use Rattle.e3_site.specs.StandsAlike.{IsLogInOrder, StandsAlike};
-ghost use Rattle.e3_node.specs.Batched.{AreAdded, BatchAt, HasNoMoreRoom, HasPlanned, IsBatchAt, OnlyForMemory, first_of};
+ghost use Rattle.e3_node.specs.Batched.{AreAdded, BatchAt, HasNoMoreRoom, HasPlanned, IsBatchAt, IsFull, IsLonger, OnlyForMemory, first_of};
 ghost use Rattle.e3_node.specs.Batches.{stepped};
 ghost use Rattle.e3_node.specs.Briefing.{BriefsAreTold};
 ghost use Rattle.e3_node.specs.Several.{AreOwned, MayEnterAll, marks_in};
@@ -10,11 +10,12 @@ ghost use Rattle.e3_turn.specs.Passes.{GrewByOthers, IsIdle, Owns, SameOwners, s
 ghost use Rattle.e3_wire.specs.Marks.{belongs, entries_of, last_owner, most_of, note_of, scenario_of, used_of};
 ghost use Rattle.e3_wire.specs.Wires.{IsPlayed};
 ghost use Rattle.e3_wire.specs.declared.marks.Mark.{Mark};
+ghost use Rattle.e3_wire.specs.declared.marks.Mark.TheVariants as mark;
 ghost use Rattle.e3_world.specs.Moves.{log_of};
 
 use crate::InputFault;
 use crate::briefing::{Room, shorten_batch, spare_for};
-use crate::drafts::planned;
+use crate::drafts::{Draft, planned};
 use crate::site_log::Short;
 use crate::stepping::{room_for, step_of};
 use e3_disk::Disk;
@@ -30,6 +31,15 @@ use std::sync::Wait;
 #[derive(Drop)]
 pub(crate) struct Batch {
     pub steps: Vec<Entry>,
+    pub records: List<Record>,
+    pub body: List<u8>,
+    pub short: Option<Short>,
+}
+
+/// What a batch has with one step more: all that it records, the spelling of that, and what the log is turned to for that step,
+/// if it is.
+#[derive(Drop)]
+pub(crate) struct Lengthened {
     pub records: List<Record>,
     pub body: List<u8>,
     pub short: Option<Short>,
@@ -68,11 +78,14 @@ fn reserve(steps: &mut Vec<Entry>) -> Result<(), NoMemory>
     }
 }
 
-fn set_short(batch: &mut Batch, short: Option<Short>)
-    ensures { batch.new ≡ record batch.old { short = first_of short batch.old.short } }
+// What a batch records with one step more is put in its place.
+fn lengthen(batch: &mut Batch, longer: Lengthened)
+    ensures { batch.new ≡ record batch.old { records = longer.records; body = longer.body; short = first_of longer.short batch.old.short } }
 {
-    if short.is_some() {
-        batch.short = short;
+    batch.records = longer.records;
+    batch.body = longer.body;
+    if longer.short.is_some() {
+        batch.short = longer.short;
     }
 }
 
@@ -81,6 +94,48 @@ fn steps_in(batch: &Batch) -> usize
     ensures { result ≡ length batch.now.steps.items }
 {
     batch.steps.as_slice().len()
+}
+
+// What a batch has with the step of this draft, for which a place is claimed; none where the frame has no room for it.
+fn longer<D: Disk>(
+    shared: &mut Shared,
+    number: u32,
+    site: &Site,
+    log: &Log<D>,
+    spare: u64,
+    batch: &Batch,
+    draft: &Draft,
+) -> Result<Option<Lengthened>, InputFault>
+    requires owner { number ≤ last_owner shared.old }
+    requires sound { log.now.failed ≡ false }
+    requires few { length draft.now.plan.step.outs < 2 ^ 32 }
+    ensures longer { IfOk result (λ longer. IfSome longer (IsLonger D.meaning.meters log.now batch.now site.now draft.now)) }
+    ensures claimed { IfOk result (λ longer. IfSome longer (λ _. shared.new ≡ shared.old ++ mark.Place number (length draft.now.plan.step.outs) ∷ [])) }
+    ensures full { IfOk result (λ longer. longer ≡ None → IsFull D.meaning.meters log.now batch.now draft.now × (shared.new ≡ shared.old)) }
+    ensures kept { OnErr result (shared.new ≡ shared.old) }
+    ensures refused { used_of shared.old < most_of shared.old → OnlyForMemory result }
+{
+    let alloc = shared.alloc();
+    let records = both_records(alloc, batch.records.as_slice(), draft.plan.records())?;
+    let body = both_bodies(alloc, batch.body.as_slice(), draft.body.as_slice())?;
+    let Room::Ready(short) = shorten_batch(
+        alloc,
+        site,
+        log,
+        batch,
+        records.as_slice(),
+        body.len(),
+        spare,
+    )?
+    else {
+        return Ok(None);
+    };
+    shared.claim(number, room_for(draft.plan.outs()))?;
+    Ok(Some(Lengthened {
+        records,
+        body,
+        short,
+    }))
 }
 
 // One input more, if the frame has room for what it records: it is planned behind those before it, and its place, which is
@@ -111,30 +166,14 @@ fn add_one<D: Disk>(
     ensures kept { OnErr result (IsBatchAt D.meaning.meters log.now at batch.new site.new shared.new) }
     ensures refused { OnlyForMemory result }
 {
-    let alloc = shared.alloc();
-    let draft = planned(alloc, site, input)?;
-    let room = room_for(draft.plan.outs());
-    let records = both_records(alloc, batch.records.as_slice(), draft.plan.records())?;
-    let body = both_bodies(alloc, batch.body.as_slice(), draft.body.as_slice())?;
-    let Room::Ready(short) = shorten_batch(
-        alloc,
-        site,
-        log,
-        batch,
-        records.as_slice(),
-        body.len(),
-        spare,
-    )?
-    else {
+    reserve(&mut batch.steps)?;
+    let draft = planned(shared.alloc(), site, input)?;
+    let Some(more) = longer(shared, number, site, log, spare, batch, &draft)? else {
         return Ok(false);
     };
-    reserve(&mut batch.steps)?;
-    shared.claim(number, room)?;
     let step = step_of(number, input.copy(), site.apply(draft.plan));
     batch.steps.push_reserved(step);
-    batch.records = records;
-    batch.body = body;
-    set_short(batch, short);
+    lengthen(batch, more);
     Ok(true)
 }
 

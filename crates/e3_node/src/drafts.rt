@@ -19,13 +19,21 @@ pub(crate) struct Draft {
     pub inputs: List<Input>,
 }
 
-fn draft_of(alloc: Global, plan: Plan, input: &Input) -> Result<Draft, NoMemory>
-    ensures plan { IfOk result (λ draft. draft.plan ≡ plan) }
-    ensures draft { IfOk result (IsDraft input.now) }
+// The spelling of what a plan records, and the inputs of the fall that may stand in its place.
+fn parts_of(alloc: Global, plan: &Plan, input: &Input) -> Result<(List<u8>, List<Input>), NoMemory>
+    ensures { IfOk result (λ parts. IsDraft input.now (record { plan = plan.now; body = parts.0; inputs = parts.1 })) }
 {
     let body = spelled(alloc, plan.records())?;
     let mut inputs = List::new(alloc);
     inputs.push(input.copy())?;
+    Ok((body, inputs))
+}
+
+fn draft_of(alloc: Global, plan: Plan, input: &Input) -> Result<Draft, NoMemory>
+    ensures plan { IfOk result (λ draft. draft.plan ≡ plan) }
+    ensures draft { IfOk result (IsDraft input.now) }
+{
+    let (body, inputs) = parts_of(alloc, &plan, input)?;
     Ok(Draft { plan, body, inputs })
 }
 

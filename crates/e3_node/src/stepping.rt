@@ -1,29 +1,32 @@
 // An input of a site that is up.
-ghost use Rattle.std.specs.Prelude.{◌≡◌, ◌^◌, ◌<◌, ◌≤◌, ◌++◌, ◌∷◌, ◌↔◌, [], true, false, length, OnOk, Err};
+ghost use Rattle.std.specs.Prelude.{◌≡◌, ◌≢◌, ◌^◌, ◌<◌, ◌≤◌, ◌++◌, ◌∷◌, ◌↔◌, [], true, false, length, IfOk, OnOk, OnErr, Err, List as Items};
 ghost use Rattle.e3_disk.specs.Meters.{Keeps};
 ghost use Rattle.e3_node.specs.Bodies.{DiskTells};
 ghost use Rattle.e3_node.specs.Ends.{FellOver, HasRoomBehind, IsOneFrame, OnLogs, is_fall};
 ghost use Rattle.e3_node.specs.NodeStands.{IsFallen, IsIn, IsUp, logged_in};
 ghost use Rattle.e3_node.specs.NodeView.{disk_of};
-ghost use Rattle.e3_node.specs.SharedStands.{MayGoOn, SharedGoesOn};
+ghost use Rattle.e3_node.specs.Batched.{OnlyForMemory};
+ghost use Rattle.e3_node.specs.Briefing.{HasBody, IsBriefOf};
+ghost use Rattle.e3_node.specs.SharedStands.{IsClaimed, MayGoOn, SharedGoesOn, SharedStands};
 ghost use Rattle.e3_node.specs.declared.fault.InputFault.{InputFault as InputFaults};
 ghost use Rattle.e3_node.specs.declared.fault.InputFault.TheVariants as input_fault;
 ghost use Rattle.e3_site.specs.SiteView.{entry_of_plan};
-ghost use Rattle.e3_node.specs.site_log.Ends.{HasRoom, IsReason, Takes, calls_for, size_of};
+ghost use Rattle.e3_node.specs.site_log.Ends.{HasRoom, HasRoomUnlessShort, IsReason, IsShortIf, Takes, calls_for, size_of};
 ghost use Rattle.e3_play.specs.Entering.{IsFirst};
 ghost use Rattle.e3_types.specs.declared.entries.Act.TheVariants as act;
 ghost use Rattle.e3_types.specs.declared.entries.Why.{Why as Whys};
 ghost use Rattle.e3_types.specs.declared.entries.Why.TheVariants.{Fault};
-ghost use Rattle.e3_wire.specs.Marks.{entries_of, most_of, scenario_of};
+ghost use Rattle.e3_types.specs.declared.records.Record.{Record as Records};
+ghost use Rattle.e3_wire.specs.Marks.{entries_of, last_owner, most_of, scenario_of};
 ghost use Rattle.e3_world.specs.Items.{is_up_at};
 ghost use Rattle.e3_world.specs.Legal.{IsDue, entry_of, made_by};
 ghost use Rattle.e3_world.specs.Moves.{log_of};
 
 use crate::briefing::shorten;
-use crate::drafts::prepare;
+use crate::drafts::{Draft, prepare};
 use crate::entering::{claim, enter, is_full};
 use crate::law::logs_are_sound;
-use crate::site_log::write;
+use crate::site_log::{Short, write};
 use crate::{InputFault, State};
 use core::mem::replace_with;
 use e3_disk::Disk;
@@ -64,6 +67,37 @@ pub(crate) fn fall_of(owner: u32, inputs: List<Input>, records: List<Record>, wh
         why,
     };
     Entry { owner, act }
+}
+
+// What the log is turned to for the frame of this draft, if it is, once a place is claimed for its step.
+fn claimed<D: Disk>(
+    number: u32,
+    site: &Site,
+    log: &Log<D>,
+    shared: &mut Shared,
+    draft: &Draft,
+) -> Result<Option<Short>, InputFault>
+    requires shared { SharedStands shared.old }
+    requires exists { number ≤ last_owner shared.old }
+    requires few { length draft.now.plan.step.outs < 2 ^ 32 }
+    requires left { length (entries_of shared.old) < most_of shared.old }
+    ensures short { (log : Items Records) → IsBriefOf site.now log → IfOk result (IsShortIf site.now.site log) }
+    ensures due { (l : Items Records) → IsBriefOf site.now l → log.now.failed ≡ false → draft.now.plan.step.records ≢ [] →
+        IfOk result (λ s. HasRoomUnlessShort D.meaning.meters log.now l s (length draft.now.body)) }
+    ensures body { IfOk result HasBody }
+    ensures claimed { OnOk result (IsClaimed number (length draft.now.plan.step.outs) shared.old shared.new) }
+    ensures kept { OnErr result (shared.new ≡ shared.old) }
+    ensures refused { OnlyForMemory result }
+{
+    let short = shorten(
+        shared.alloc(),
+        site,
+        log,
+        draft.plan.records(),
+        draft.body.len(),
+    )?;
+    claim(shared, number, room_for(draft.plan.outs()))?;
+    Ok(short)
 }
 
 // A site that is up takes an input: its step is planned, its frame is written, and it is entered; or it falls. The records that
@@ -108,10 +142,8 @@ fn step<D: Disk>(
         return Err(InputFault::HistoryFull);
     }
     let draft = prepare(site, rose, &input, shared)?;
+    let short = claimed(number, site, log, shared, &draft)?;
     let (records, body) = (draft.plan.records(), draft.body.as_slice());
-    let short = shorten(shared.alloc(), site, log, records, draft.body.len())?;
-    let room = room_for(draft.plan.outs());
-    claim(shared, number, room)?;
     match write(log, logged, &short, records, body) {
         Ok(()) => {
             let step = step_of(number, input, site.apply(draft.plan));

@@ -7,7 +7,7 @@ use crate::cuts::{FEED, cut};
 use crate::faults::{Fault, TraceFault};
 use crate::reading::{MOST_ENTRIES, Reading};
 use e3_report::lines::is_text;
-use e3_types::Scenario;
+use e3_types::{NoMemory, Scenario};
 use e3_world::History;
 use std::alloc::Global;
 
@@ -99,14 +99,13 @@ fn entries_in(text: &[u8]) -> u64
     count
 }
 
+// The history that these lines spell, where nothing is read yet.
 #[tactic(auto, using(crate::proofs::Lines::read_none, crate::proofs::Lines::read_end, crate::proofs::Lines::read_on))]
-fn lines(alloc: Global, text: &[u8]) -> Result<History, TraceFault>
-    requires { length text.now ≤ 268435456 }
+fn lines_with(alloc: Global, reading: &mut Reading, text: &[u8]) -> Result<History, TraceFault>
+    requires fresh { reading.old ≡ nothing_read }
+    requires few { length text.now ≤ 268435456 }
     ensures { Spells (λ h. h.entries) result (lines_read 1 nothing_read (pieces feed text.now)) }
 {
-    let Ok(mut reading) = Reading::roomy(alloc, entries_in(text)) else {
-        return Err(TraceFault::NoMemory);
-    };
     let mut left = text;
     let mut at = 1u64;
     'lines: loop {
@@ -114,11 +113,21 @@ fn lines(alloc: Global, text: &[u8]) -> Result<History, TraceFault>
             return Err(TraceFault::Line { at });
         };
         if is_text(line, "end") {
-            return ended(alloc, at, &mut reading, more);
+            return ended(alloc, at, reading, more);
         }
-        one_on(alloc, at, &mut reading, line)?;
+        one_on(alloc, at, reading, line)?;
         left = more;
         at += 1;
+    }
+}
+
+fn lines(alloc: Global, text: &[u8]) -> Result<History, TraceFault>
+    requires { length text.now ≤ 268435456 }
+    ensures { Spells (λ h. h.entries) result (lines_read 1 nothing_read (pieces feed text.now)) }
+{
+    match Reading::roomy(alloc, entries_in(text)) {
+        Ok(mut reading) => lines_with(alloc, &mut reading, text),
+        Err(NoMemory) => Err(TraceFault::NoMemory),
     }
 }
 

@@ -112,20 +112,16 @@ impl Auditor {
     }
 }
 
-/// Walks over a history with what is kept of it, up to the first entry that is not seen to be legal.
-pub(crate) fn walk(
+// Walks over a history with what is kept of it.
+fn walk_with(
+    auditor: &mut Auditor,
     alloc: Global,
     scenario: &Scenario,
     history: &[Entry],
 ) -> Result<Walked, NoMemory>
+    requires { Stands scenario.now [] auditor.old }
     ensures { IfOk result (IsWalked scenario.now history.now) }
 {
-    let Some(mut auditor) = Auditor::start(alloc, scenario)? else {
-        return Ok(Walked {
-            passed: 0,
-            through: false,
-        });
-    };
     let mut binding = nothing_bound(alloc);
     for at in 0..history.len() {
         let after = &history[..at + 1];
@@ -143,4 +139,21 @@ pub(crate) fn walk(
         passed: history.len(),
         through,
     })
+}
+
+/// Walks over a history with what is kept of it, up to the first entry that is not seen to be legal.
+pub(crate) fn walk(
+    alloc: Global,
+    scenario: &Scenario,
+    history: &[Entry],
+) -> Result<Walked, NoMemory>
+    ensures { IfOk result (IsWalked scenario.now history.now) }
+{
+    match Auditor::start(alloc, scenario)? {
+        Some(mut auditor) => walk_with(&mut auditor, alloc, scenario, history),
+        None => Ok(Walked {
+            passed: 0,
+            through: false,
+        }),
+    }
 }

@@ -1,10 +1,15 @@
 // A scenario that is played by so many threads, and its history judged.
+ghost use Rattle.std.specs.Prelude.{IfSome};
+ghost use Rattle.e3_world.specs.Given.{IsGiven};
+
 use crate::judged::frames::open;
 use crate::playing::played_over;
 use e3_disk::MemDisk;
+use e3_fleet::Played;
 use e3_judge::audit::audit;
 use e3_outside::{Gate, Source, read_up_to};
 use e3_scenario::read_scenario;
+use e3_types::Scenario;
 use std::alloc::Global;
 use std::sync::Wait;
 use std::sync::atomic::{AtomicU64, Ordering};
@@ -62,6 +67,36 @@ fn frames_together(alloc: Global, disks: Vec<MemDisk>) -> Option<u64> {
     Some(count)
 }
 
+// The scenario of a source.
+fn scenario_in<S: Source>(alloc: Global, source: &mut S) -> Option<Scenario>
+    ensures { IfSome result IsGiven }
+{
+    let Ok(bytes) = read_up_to(alloc, source, BYTES) else {
+        return None;
+    };
+    read_scenario(alloc, bytes.as_slice()).ok()
+}
+
+// How many frames the disks of a run have, where they are counted.
+fn frames_behind(
+    alloc: Global,
+    scenario: &Scenario,
+    played: Played<MemDisk>,
+    behind: Behind,
+) -> Option<Option<u64>> {
+    match behind {
+        Behind::Nothing => Some(None),
+        Behind::Judge => {
+            if audit(alloc, scenario, &played.history).ok()?.whole {
+                Some(None)
+            } else {
+                None
+            }
+        }
+        Behind::CountFrames => Some(Some(frames_together(alloc, played.disks)?)),
+    }
+}
+
 /// Plays the scenario of a source in at most so many threads, a worker taking so many packets at most in one turn of work, and
 /// has its history judged, or the frames on its disks counted, where that is asked for. None where the source has no scenario,
 /// where the history is not judged to be whole, where a disk is not read as a log, or without memory.
@@ -73,30 +108,15 @@ pub fn play<S: Source, R: Wait + Threads + Sync>(
     packets: u32,
     behind: Behind,
 ) -> Option<Pace> {
-    let Ok(bytes) = read_up_to(alloc, source, BYTES) else {
-        return None;
-    };
-    let Ok(scenario) = read_scenario(alloc, bytes.as_slice()) else {
-        return None;
-    };
+    let scenario = scenario_in(alloc, source)?;
     let gate = Counter {
         passed: AtomicU64::new(0),
     };
     let played = played_over(rt, alloc, &scenario, CAPACITY, &gate, threads, packets)?;
     let (entries, turns) = (played.history.len(), gate.passed.load(Ordering::SeqCst));
-    let frames = match behind {
-        Behind::Nothing => None,
-        Behind::Judge => {
-            if !audit(alloc, &scenario, &played.history).ok()?.whole {
-                return None;
-            }
-            None
-        }
-        Behind::CountFrames => Some(frames_together(alloc, played.disks)?),
-    };
     Some(Pace {
         entries,
         turns,
-        frames,
+        frames: frames_behind(alloc, &scenario, played, behind)?,
     })
 }

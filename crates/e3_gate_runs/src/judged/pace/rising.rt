@@ -108,15 +108,20 @@ fn add_commits<D: Disk>(alloc: Global, log: &mut Log<D>, writes: u32, from: u64)
     None
 }
 
+// Adds to an empty log what a site records that rises once and does commits of so many writes; how many commits there are.
+fn fill<D: Disk>(alloc: Global, log: &mut Log<D>, writes: u32) -> Option<u64> {
+    let body = put_records(alloc, first_records(alloc).ok()?.as_slice()).ok()?;
+    if !add(log, body.as_slice()) {
+        return None;
+    }
+    add_commits(alloc, log, writes, body.len())
+}
+
 // The log of a site that rose once and did commits of so many writes.
 fn filled(alloc: Global, writes: u32) -> Option<LongLog> {
     let disk = MemDisk::blank(alloc, CAPACITY).ok()?;
     let (mut log, _frames) = Log::open(alloc, disk).ok()?;
-    let body = put_records(alloc, first_records(alloc).ok()?.as_slice()).ok()?;
-    if !add(&mut log, body.as_slice()) {
-        return None;
-    }
-    let commits = add_commits(alloc, &mut log, writes, body.len())?;
+    let commits = fill(alloc, &mut log, writes)?;
     Some(LongLog { log, commits })
 }
 
@@ -140,15 +145,26 @@ fn rebuilt(alloc: Global, records: &[Record]) -> Option<Site> {
     rebuild(alloc, 1, records).ok()
 }
 
+// How many bytes frames take.
+fn bytes_of(frames: &[Frame]) -> u64 {
+    let mut bytes = 0u64;
+    for frame in frames {
+        bytes = bytes.saturating_add(5).saturating_add(frame.body.len());
+    }
+    bytes
+}
+
+// The site of the records of a log's frames.
+fn site_of(alloc: Global, frames: &[Frame]) -> Option<Site> {
+    let records = records_in(alloc, frames)?;
+    rebuilt(alloc, records.as_slice())
+}
+
 // What a rise does before it writes its own frame: the log is opened, its records are read, and the site is made of them.
 fn rise_over(alloc: Global, disk: MemDisk) -> Option<Risen> {
     let (log, frames) = Log::open(alloc, disk).ok()?;
-    let records = records_in(alloc, frames.as_slice())?;
-    let site = rebuilt(alloc, records.as_slice())?;
-    let mut bytes = 0u64;
-    for frame in frames.as_slice() {
-        bytes = bytes.saturating_add(5).saturating_add(frame.body.len());
-    }
+    let site = site_of(alloc, frames.as_slice())?;
+    let bytes = bytes_of(frames.as_slice());
     Some(Risen { log, site, bytes })
 }
 
@@ -173,11 +189,16 @@ fn turn<D: Disk>(log: &mut Log<D>, body: &[u8]) -> Option<()> {
 }
 
 // Turns the log of a site to its brief.
-fn turn_to_brief(alloc: Global, risen: Risen) -> Option<MemDisk> {
-    let Risen { mut log, site, .. } = risen;
-    let brief = brief_of_site(alloc, &site).ok()?;
+fn turn_to_brief<D: Disk>(alloc: Global, log: &mut Log<D>, site: &Site) -> Option<()> {
+    let brief = brief_of_site(alloc, site).ok()?;
     let body = put_records(alloc, brief.as_slice()).ok()?;
-    turn(&mut log, body.as_slice())?;
+    turn(log, body.as_slice())
+}
+
+// The disk of a site that rose, whose log is turned to its brief.
+fn turned(alloc: Global, risen: Risen) -> Option<MemDisk> {
+    let Risen { mut log, site, .. } = risen;
+    turn_to_brief(alloc, &mut log, &site)?;
     Some(log.into_disk())
 }
 
@@ -186,7 +207,7 @@ fn turn_to_brief(alloc: Global, risen: Risen) -> Option<MemDisk> {
 pub fn rises<R: Clock>(rt: &R, alloc: Global, writes: u32) -> Option<BothRises> {
     let LongLog { log, commits } = filled(alloc, writes)?;
     let (first, before) = timed_rise(rt, alloc, log.into_disk())?;
-    let disk = turn_to_brief(alloc, first)?;
+    let disk = turned(alloc, first)?;
     let (_second, behind) = timed_rise(rt, alloc, disk)?;
     Some(BothRises {
         commits,

@@ -1,7 +1,8 @@
 use Rattle.std.proofs.Common.{◌≡◌, ◌≢◌, ◌<◌, ◌^◌, [], ◌∙◌, ℕ, Err, ap, sym, subst, List, length, arith}
 use Rattle.std.specs.Prelude.{IsErrAnd, Ok, Result}
 use Rattle.e3_node.specs.Bodies.{DiskTells, entries_at}
-use Rattle.e3_node.specs.Ends.{FellOver, IsOneFrame, input_fault_of}
+use Rattle.e3_node.specs.Batched.{OnlyForMemory}
+use Rattle.e3_node.specs.Ends.{FellOver, IsOneFrame}
 use Rattle.e3_node.specs.NodeStands.{IsUp, StandsBy}
 use Rattle.e3_node.specs.SharedStands.{HasEntered}
 use Rattle.e3_node.specs.declared.fault.InputFault.{InputFault}
@@ -12,10 +13,8 @@ use Rattle.e3_types.specs.declared.entries.Act.TheVariants.{Fall}
 use Rattle.e3_types.specs.declared.entries.Entry.{Entry}
 use Rattle.e3_types.specs.declared.entries.Why.{Why}
 use Rattle.e3_types.specs.declared.records.Record.{Record}
-use Rattle.e3_wire.specs.Marks.{UsesAll, entries_of, scenario_of}
+use Rattle.e3_wire.specs.Marks.{UsesAll, entries_of, scenario_of, most_of}
 use Rattle.e3_wire.specs.Wires.{MayEnterBehind}
-use Rattle.e3_wire.specs.declared.fault.WireFault.{WireFault}
-use Rattle.e3_wire.specs.declared.fault.WireFault.TheVariants as wire_fault
 use Rattle.e3_world.specs.Legal.{made_by}
 use Rattle.e3_world.specs.Moves.{log_of}
 use Rattle.e3_world.specs.declared.lives.SiteStep.{SiteStep}
@@ -28,11 +27,14 @@ use Rattle.e3_node.proofs.Steps.{draft_made, fall_allowed, fall_entered, fall_ta
 use Rattle.e3_node.proofs.Written.{Follows, step_follows, up_brief}
 use Rattle.e3_node.proofs.stepping.step.Goals as goal
 
--- a claim that was refused is no fall
-no_fall : (w : WireFault) (r : Result (Unit {0}) InputFault) (why : Why) → IsErrAnd r (λ fault. fault ≡ input_fault_of w) → r ≡ Err (input_fault.Fell why) → ⊥
-no_fall w (Ok done) why is fell = is
-no_fall wire_fault.HistoryFull (Err fault) why is fell = cc
-no_fall wire_fault.NoMemory (Err fault) why is fell = cc
+-- want of memory is no fall
+no_fall : (f : InputFault) (r : Result (Unit {0}) InputFault) (why : Why) →
+    (let refused : Result (Unit {0}) InputFault = Err f in OnlyForMemory refused) → IsErrAnd r (λ fault. fault ≡ f) → r ≡ Err (input_fault.Fell why) → ⊥
+no_fall f (Ok done) why only is fell = is
+no_fall input_fault.NoMemory (Err fault) why only is fell = cc
+no_fall input_fault.HistoryFull (Err fault) why only is fell = only
+no_fall input_fault.Down (Err fault) why only is fell = only
+no_fall (input_fault.Fell other) (Err fault) why only is fell = only
 
 pub prepare-requires : goal.prepare-requires
 prepare-requires g c =
@@ -49,7 +51,7 @@ write-requires-clause-may g c =
     let was = c.args.shared.now in
     let h = entries_of was in
     may_turn g.D.Disk.meaning h c.args.number (log_of (scenario_of was) h c.args.number) c.args.logged.now c.args.log.now c.in_ok-short.short c.requires.up.logged
-    (one_more_entry was (length h) c.requires.shared.stands.played (λ all. (let full = c.in_ok-claim.ensures.full.1 all in cc))) c.in_ok-short.ensures.body
+    (one_more_entry was (length h) c.requires.shared.stands.played (λ all. (let left : length h < most_of was = grind (arith, c.is_full.ensures, c.if-is_full.false) in omega (arith, left, all)))) c.in_ok-short.ensures.body
 
 pub enter-requires-clause-may : goal.enter-requires-clause-may
 enter-requires-clause-may g c =
@@ -61,22 +63,19 @@ enter-requires-clause-may g c =
     let step : SiteStep = c.apply.result in
     let is : step ≡ step_kept c.args.input (made_by sc h c.args.number c.args.input) = c.apply.ensures.step ∙ made.step_is in
     let e : Entry = entry_of_plan c.args.number c.args.input step in
-    let fits : length step.outs ≡ c.room_for-room.result =
-    ap (λ (p : SiteStep). length p.outs) c.apply.ensures.step ∙ sym (c.room_for-room.ensures ∙ ap length c.outs.ensures) in
-    let small : c.room_for-room.result < 2 ^ 32 =
-    (let few = c.in_ok-draft.ensures.ready.few in let is : c.room_for-room.result ≡ length d.plan.step.outs = c.room_for-room.ensures ∙ ap length c.outs.ensures in omega (arith, few, is)) in
-    let may : MayEnterBehind c.claim.new.shared e =
-    may_enter was c.claim.new.shared _ e c.in_ok-claim.ensures.claimed c.requires.shared.some (step_allowed sc h c.args.number c.args.input step is c.requires.shared.some c.requires.up.up c.requires.due)
+    let fits : length step.outs ≡ length c.in_ok-draft.draft.plan.step.outs = ap (λ (p : SiteStep). length p.outs) c.apply.ensures.step in
+    let small : length d.plan.step.outs < 2 ^ 32 = c.in_ok-draft.ensures.ready.few in
+    let may : MayEnterBehind c.claimed.new.shared e =
+    may_enter was c.claimed.new.shared _ e c.in_ok-short.ensures.claimed c.requires.shared.some (step_allowed sc h c.args.number c.args.input step is c.requires.shared.some c.requires.up.up c.requires.due)
     (first_takes_least sc h c.args.number c.args.input c.requires.due c.requires.first) (omega (arith, fits)) small in
-    subst (λ (x : Entry). MayEnterBehind c.claim.new.shared x) (sym c.step_of-step.ensures) may
+    subst (λ (x : Entry). MayEnterBehind c.claimed.new.shared x) (sym c.step_of-step.ensures) may
 
 pub enter-requires-clause-all : goal.enter-requires-clause-all
 enter-requires-clause-all g c =
     let step : SiteStep = c.apply.result in
-    let fits : length step.outs ≡ c.room_for-room.result =
-    ap (λ (p : SiteStep). length p.outs) c.apply.ensures.step ∙ sym (c.room_for-room.ensures ∙ ap length c.outs.ensures) in
-    subst (λ (x : Entry). UsesAll c.claim.new.shared x) (sym c.step_of-step.ensures)
-    (step_uses c.args.number _ c.args.shared.now c.claim.new.shared c.args.input step.records step.outs step.told c.in_ok-claim.ensures.claimed (sym fits))
+    let fits : length step.outs ≡ length c.in_ok-draft.draft.plan.step.outs = ap (λ (p : SiteStep). length p.outs) c.apply.ensures.step in
+    subst (λ (x : Entry). UsesAll c.claimed.new.shared x) (sym c.step_of-step.ensures)
+    (step_uses c.args.number _ c.args.shared.now c.claimed.new.shared c.args.input step.records step.outs step.told c.in_ok-short.ensures.claimed (sym fits))
 
 pub enter-requires-in-Err-clause-may : goal.enter-requires-in-Err-clause-may
 enter-requires-in-Err-clause-may g c =
@@ -89,21 +88,20 @@ enter-requires-in-Err-clause-may g c =
     let rs : records ≡ (made_by sc h c.args.number c.args.input).records =
     records_made sc h c.args.number c.args.input c.into_step-made.result (c.into_step-made.ensures ∙ made.step_is) in
     let e : Entry = record { owner = c.args.number; act = Fall d.inputs records c.in-Err.why } in
-    let small : c.room_for-room.result < 2 ^ 32 =
-    (let few = c.in_ok-draft.ensures.ready.few in let is : c.room_for-room.result ≡ length d.plan.step.outs = c.room_for-room.ensures ∙ ap length c.outs.ensures in omega (arith, few, is)) in
-    let may : MayEnterBehind c.claim.new.shared e =
-    may_enter was c.claim.new.shared _ e c.in_ok-claim.ensures.claimed c.requires.shared.some
+    let small : length d.plan.step.outs < 2 ^ 32 = c.in_ok-draft.ensures.ready.few in
+    let may : MayEnterBehind c.claimed.new.shared e =
+    may_enter was c.claimed.new.shared _ e c.in_ok-short.ensures.claimed c.requires.shared.some
     (fall_allowed sc h c.args.number c.args.input d.inputs records c.in-Err.why made.inputs_are rs c.requires.shared.some c.requires.up.up c.requires.due
     (λ none. c.in-Err.ensures.some (c.records-records.ensures ∙ records_made sc h c.args.number c.args.input d.plan.step made.step_is ∙ sym rs ∙ none)))
     (fall_takes sc h c.args.number c.args.input d.inputs made.inputs_are (first_takes_least sc h c.args.number c.args.input c.requires.due c.requires.first)) (omega arith) small in
-    subst (λ (x : Entry). MayEnterBehind c.claim.new.shared x) (sym c.fall_of-fall.ensures) may
+    subst (λ (x : Entry). MayEnterBehind c.claimed.new.shared x) (sym c.fall_of-fall.ensures) may
 
 pub enter-requires-in-Err-clause-all : goal.enter-requires-in-Err-clause-all
 enter-requires-in-Err-clause-all g c =
     let d = c.in_ok-draft.draft in
-    subst (λ (x : Entry). UsesAll c.claim.new.shared x) (sym c.fall_of-fall.ensures)
-    (fall_uses c.args.number _ c.args.shared.now c.claim.new.shared d.inputs c.into_step-made.result.records c.in-Err.why
-    (ap length c.in_ok-draft.ensures.ready.drafted.inputs_are) c.in_ok-claim.ensures.claimed)
+    subst (λ (x : Entry). UsesAll c.claimed.new.shared x) (sym c.fall_of-fall.ensures)
+    (fall_uses c.args.number _ c.args.shared.now c.claimed.new.shared d.inputs c.into_step-made.result.records c.in-Err.why
+    (ap length c.in_ok-draft.ensures.ready.drafted.inputs_are) c.in_ok-short.ensures.claimed)
 
 pub returns-in-Ok-clause-shared : goal.returns-in-Ok-clause-shared
 returns-in-Ok-clause-shared g c =
@@ -115,7 +113,7 @@ returns-in-Ok-clause-shared g c =
     let step : SiteStep = c.apply.result in
     let is : step ≡ step_kept c.args.input (made_by sc h c.args.number c.args.input) = c.apply.ensures.step ∙ made.step_is in
     let e : Entry = entry_of_plan c.args.number c.args.input step in
-    let has : HasEntered e was c.enter.new.shared = has_from was c.claim.new.shared c.enter.new.shared _ c.step_of-step.result e c.step_of-step.ensures c.in_ok-claim.ensures.claimed c.enter.ensures in
+    let has : HasEntered e was c.enter.new.shared = has_from was c.claimed.new.shared c.enter.new.shared _ c.step_of-step.result e c.step_of-step.ensures c.in_ok-short.ensures.claimed c.enter.ensures in
     has.on
 
 pub returns-in-Ok-clause-stepped : goal.returns-in-Ok-clause-stepped
@@ -128,7 +126,7 @@ returns-in-Ok-clause-stepped g c =
     let step : SiteStep = c.apply.result in
     let is : step ≡ step_kept c.args.input (made_by sc h c.args.number c.args.input) = c.apply.ensures.step ∙ made.step_is in
     let e : Entry = entry_of_plan c.args.number c.args.input step in
-    let has : HasEntered e was c.enter.new.shared = has_from was c.claim.new.shared c.enter.new.shared _ c.step_of-step.result e c.step_of-step.ensures c.in_ok-claim.ensures.claimed c.enter.ensures in
+    let has : HasEntered e was c.enter.new.shared = has_from was c.claimed.new.shared c.enter.new.shared _ c.step_of-step.result e c.step_of-step.ensures c.in_ok-short.ensures.claimed c.enter.ensures in
     step_entered sc h (entries_of c.enter.new.shared) c.args.number c.args.input step is has.entries
 
 pub returns-in-Ok-clause-up : goal.returns-in-Ok-clause-up
@@ -141,7 +139,7 @@ returns-in-Ok-clause-up g c =
     let step : SiteStep = c.apply.result in
     let is : step ≡ step_kept c.args.input (made_by sc h c.args.number c.args.input) = c.apply.ensures.step ∙ made.step_is in
     let e : Entry = entry_of_plan c.args.number c.args.input step in
-    let has : HasEntered e was c.enter.new.shared = has_from was c.claim.new.shared c.enter.new.shared _ c.step_of-step.result e c.step_of-step.ensures c.in_ok-claim.ensures.claimed c.enter.ensures in
+    let has : HasEntered e was c.enter.new.shared = has_from was c.claimed.new.shared c.enter.new.shared _ c.step_of-step.result e c.step_of-step.ensures c.in_ok-short.ensures.claimed c.enter.ensures in
     let entered = step_entered sc h (entries_of c.enter.new.shared) c.args.number c.args.input step is has.entries in
     let ready : StandsBy sc h c.args.number c.args.rose.now c.prepare.new.site =
     record { alike = c.in_ok-draft.ensures.still.stands sc h c.args.number c.args.rose.now c.requires.up.stands.alike; risen = c.requires.up.stands.risen; order = c.requires.up.stands.order } in
@@ -173,7 +171,7 @@ returns-in-Err-clause-shared g c =
     let rs : records ≡ (made_by sc h c.args.number c.args.input).records =
     records_made sc h c.args.number c.args.input c.into_step-made.result (c.into_step-made.ensures ∙ made.step_is) in
     let e : Entry = record { owner = c.args.number; act = Fall d.inputs records c.in-Err.why } in
-    let has : HasEntered e was c.enter-in-Err.new.shared = has_from was c.claim.new.shared c.enter-in-Err.new.shared _ c.fall_of-fall.result e c.fall_of-fall.ensures c.in_ok-claim.ensures.claimed c.enter-in-Err.ensures in
+    let has : HasEntered e was c.enter-in-Err.new.shared = has_from was c.claimed.new.shared c.enter-in-Err.new.shared _ c.fall_of-fall.result e c.fall_of-fall.ensures c.in_ok-short.ensures.claimed c.enter-in-Err.ensures in
     has.on
 
 pub returns-in-Err-clause-fell : goal.returns-in-Err-clause-fell
@@ -187,7 +185,7 @@ returns-in-Err-clause-fell g c = λ why is.
     let rs : records ≡ (made_by sc h c.args.number c.args.input).records =
     records_made sc h c.args.number c.args.input c.into_step-made.result (c.into_step-made.ensures ∙ made.step_is) in
     let e : Entry = record { owner = c.args.number; act = Fall d.inputs records c.in-Err.why } in
-    let has : HasEntered e was c.enter-in-Err.new.shared = has_from was c.claim.new.shared c.enter-in-Err.new.shared _ c.fall_of-fall.result e c.fall_of-fall.ensures c.in_ok-claim.ensures.claimed c.enter-in-Err.ensures in
+    let has : HasEntered e was c.enter-in-Err.new.shared = has_from was c.claimed.new.shared c.enter-in-Err.new.shared _ c.fall_of-fall.result e c.fall_of-fall.ensures c.in_ok-short.ensures.claimed c.enter-in-Err.ensures in
     let entered = fall_entered sc h (entries_of c.enter-in-Err.new.shared) c.args.number c.args.input d.inputs records c.in-Err.why made.inputs_are rs has.entries in
     let more = entries_of c.enter-in-Err.new.shared in
     let some : (made_by sc h c.args.number c.args.input).records ≢ [] = (λ none. c.in-Err.ensures.some (c.records-records.ensures ∙ records_made sc h c.args.number c.args.input d.plan.step made.step_is ∙ none)) in
@@ -226,10 +224,10 @@ returns-in-Err-clause-why g c = λ why is.
     let l = log_of sc h c.args.number in
     let brief = up_brief c.logs_are_sound.ensures.orderly c.logs_are_sound.ensures.sets c.logs_are_sound.ensures.sound c.logs_are_sound.ensures.mention c.logs_are_sound.ensures.begun c.logs_are_sound.ensures.votes sc h c.args.number
     c.requires.shared.stands.played.given c.requires.shared.stands.played.legal c.requires.up.up c.args.rose.now c.prepare.new.site ready in
-    let size : c.len.result ≡ size_of c.records-records.result.now =
-    c.len.ensures ∙ ap length c.in_ok-draft.ensures.ready.drafted.body_is ∙ sym (ap size_of c.records-records.ensures) in
+    let size : length d.body ≡ size_of c.records-records.result.now =
+    ap length c.in_ok-draft.ensures.ready.drafted.body_is ∙ sym (ap size_of c.records-records.ensures) in
     let due : HasRoomUnlessShort g.D.Disk.meaning.meters c.args.log.now l c.in_ok-short.short (size_of c.records-records.result.now) =
-    subst (λ (n : ℕ). HasRoomUnlessShort g.D.Disk.meaning.meters c.args.log.now l c.in_ok-short.short n) size (c.in_ok-short.ensures.due l brief c.requires.up.logged.stands.sound c.in-Err.ensures.some) in
+    subst (λ (n : ℕ). HasRoomUnlessShort g.D.Disk.meaning.meters c.args.log.now l c.in_ok-short.short n) size (c.in_ok-short.ensures.due l brief c.requires.up.logged.stands.sound (λ none. c.in-Err.ensures.some (c.records-records.ensures ∙ none))) in
     let same : c.in-Err.why ≡ why = cc in
     subst (λ (w : Why). IsReason w l (made_by sc h c.args.number c.args.input).records old new) same
     (subst (λ (rs : List Record). IsReason c.in-Err.why l rs old new) slice
@@ -279,6 +277,6 @@ returns-in-Ok-clause-takes g c =
     let T : List Record → Type 0 = λ rs. Takes (calls_for rs) (g.D.Disk.meaning.meters c.args.log.now.disk) (g.D.Disk.meaning.meters c.write.new.log.disk) in
     subst T (c.records-records.ensures ∙ records_made sc h c.args.number c.args.input d.plan.step made.step_is) c.in-Ok.ensures.takes
 
-pub returns-in_err-claim-clause-fell : goal.returns-in_err-claim-clause-fell
-returns-in_err-claim-clause-fell g c = λ why is.
-    absurd (no_fall c.in_err-claim.field-0.0 c.from_residual-in_err-claim.result why c.from_residual-in_err-claim.ensures.1 is)
+pub returns-in_err-short-clause-fell : goal.returns-in_err-short-clause-fell
+returns-in_err-short-clause-fell g c = λ why is.
+    absurd (no_fall c.in_err-short.field-0.0 c.from_residual-in_err-short.result why c.in_err-short.ensures.refused c.from_residual-in_err-short.ensures.1 is)

@@ -1,7 +1,7 @@
 use Rattle.std.proofs.Common.{◌≡◌, take}
 use Rattle.e3_readings.specs.Bindings.{bound_behind}
 use Rattle.e3_judge.specs.audit.Seats.{Stands}
-use Rattle.e3_judge.proofs.audit.walking.walk.Given as goal
+use Rattle.e3_judge.proofs.audit.walking.walk_with.Given as goal
 
 abbrev pub invariant-loop-at : goal.invariant-loop-at
 invariant-loop-at l = record {

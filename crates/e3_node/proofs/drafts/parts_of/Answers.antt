@@ -5,10 +5,10 @@ use Rattle.e3_node.specs.Telling.{IsOfSite}
 use Rattle.e3_types.specs.Spelling.{spelling}
 use Rattle.e3_types.specs.declared.entries.Input.{Input}
 use Rattle.e3_types.specs.declared.records.Record.{Record}
-use Rattle.e3_node.proofs.drafts.draft_of.Goals as goal
+use Rattle.e3_node.proofs.drafts.parts_of.Goals as goal
 
-pub returns-clause-draft : goal.returns-clause-draft
-returns-clause-draft c = record {
+pub returns : goal.returns
+returns c = record {
   body_is = c.in_ok-body.ensures.bytes ∙ ap spelling c.records.ensures;
   back = λ site. subst (λ (rs : List Record). Each (IsOfSite site) rs → AllCanBeReadBack site rs) c.records.ensures (c.in_ok-body.ensures.back site);
   inputs_are =

@@ -2,7 +2,7 @@
 use Rattle.std.proofs.Common.{◌≡◌, ◌≤◌, ◌+◌, length}
 use Rattle.e3_report.specs.lines.Marks.{feed, pieces}
 use Rattle.e3_trace.specs.Trace.{nothing_read, lines_read}
-use Rattle.e3_trace.proofs.trace.lines.Given as goal
+use Rattle.e3_trace.proofs.trace.lines_with.Given as goal
 
 abbrev pub invariant-lines : goal.invariant-lines
 invariant-lines l = record {
