@@ -77,8 +77,9 @@ fn scenario_in<S: Source>(alloc: Global, source: &mut S) -> Option<Scenario>
     read_scenario(alloc, bytes.as_slice()).ok()
 }
 
-// How many frames the disks of a run have, where they are counted.
-fn frames_behind(
+// Does what is asked for behind a run: how many frames its disks have, and none in place of a count where they are not counted.
+// None at all where the history is judged and is not whole, where a disk is not read as a log, or without memory.
+fn looked_behind(
     alloc: Global,
     scenario: &Scenario,
     played: Played<MemDisk>,
@@ -117,6 +118,6 @@ pub fn play<S: Source, R: Wait + Threads + Sync>(
     Some(Pace {
         entries,
         turns,
-        frames: frames_behind(alloc, &scenario, played, behind)?,
+        frames: looked_behind(alloc, &scenario, played, behind)?,
     })
 }
