@@ -1,6 +1,6 @@
 -- What tables of a life with few steps count has room in 32 bits.
-use Rattle.std.specs.Prelude.{◌≡◌, ◌<◌, ◌≤◌, ◌+◌, ◌==◌, ◌&&◌, if◌then◌else◌, ◌++◌, ◌∷◌, [], ℕ, Bool, true, false, List, length, fold, count_by}
-use Rattle.std.specs.List.{list_any, flat_map}
+use Rattle.std.specs.Prelude.{◌≡◌, ◌<◌, ◌≤◌, ◌+◌, ◌==◌, ◌&&◌, if◌then◌else◌, ◌∷◌, [], ℕ, Bool, true, false, List, length, fold}
+use Rattle.std.specs.List.{list_any}
 use Rattle.std.proofs.Common.{arith, refl, subst, sym}
 use Rattle.std.proofs.lemmas.Grind.{common_steps}
 use Rattle.std.proofs.lemmas.List.Sums.{count_by-le-length}
@@ -16,7 +16,7 @@ use Rattle.e3_world.specs.declared.lives.Life.{Life}
 use Rattle.e3_world.specs.declared.lives.Moment.{Moment}
 use Rattle.e3_world.specs.declared.lives.Performed.{Performed}
 use Rattle.e3_world.specs.Elections.{is_elect}
-use Rattle.e3_world.specs.Operations.{done, tells_op}
+use Rattle.e3_world.specs.Operations.{tells_op}
 use Rattle.e3_world.specs.Steps.{is_begin}
 use Rattle.e3_readings.proofs.Counting.{done_are_few, issued_are_few}
 use Rattle.e3_cards.specs.declared.card.Card.{Card}

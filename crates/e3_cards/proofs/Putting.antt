@@ -196,6 +196,12 @@ pub roomier_by : (ms ns : List (TxnKey × Card)) (k : TxnKey) (c : Card) → c �
 roomier_by ms ns k c e none h =
     roomier ms ns k (none_of (lookup (is_at (key_cmp k)) ms) none) (λ q. h q ∙ ap (λ (x : Card). cond (is_at (key_cmp k) q) (Some x) (lookup (is_at (key_cmp q)) ms)) e)
 
+-- an insert of a blank card at a key without one, whether it comes to pass or not
+pub room_result : {A E : Type 0} (r : Result A E) (ms ns : List (TxnKey × Card)) (k : TxnKey) (c : Card) → c ≡ blank → false ≡ is_some (lookup (is_at (key_cmp k)) ms)
+    → OnOk r (Inserts ms ns k c) → OnErr r (ns ≡ ms) → IsRoomier ms ns
+room_result (Ok x) ms ns k c e none put same = roomier_by ms ns k c e none put
+room_result (Err x) ms ns k c e none put same = roomier_same ms ns same
+
 -- an insert at a key with a card comes to pass
 pub put_result : {A E : Type 0} (r : Result A E) (ms ns : List (TxnKey × Card)) (c : Change) (k : TxnKey) → IsFoundByBits c.txn → k ≡ txn_key c.txn → HasCard ms (txn_key c.txn)
     → OnOk r (Inserts ms ns k c.card) → OnErr r (lookup (is_at (key_cmp k)) ms ≡ None)

@@ -1,6 +1,6 @@
 -- The card of a transaction: all that the rules of a step read of it, kept beside each other; and what one more step makes
 -- of a card. The step is told by the card alone, so a site need not keep its log and its steps.
-use Rattle.std.specs.Prelude.{◌++◌, [], ℕ, List, length, fold, None}
+use Rattle.std.specs.Prelude.{◌++◌, [], ℕ, List, Option, length, fold, None, unwrap_or}
 use Rattle.std.specs.List.{flat_map}
 use Rattle.e3_types.specs.declared.transactions.Call.{Call}
 use Rattle.e3_types.specs.declared.transactions.Txn.{Txn}
@@ -52,6 +52,10 @@ blank = record {
   election = None;
   rounds = record { group = []; now = None };
 }
+
+-- what is kept of a transaction that may have no card
+abbrev pub kept : Option Card → Card
+kept card = unwrap_or card blank
 
 -- a step as a moment of which the log before it is not read
 abbrev pub moment_of : SiteStep → Moment

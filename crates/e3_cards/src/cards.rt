@@ -1,11 +1,14 @@
 // The cards of a site's transactions.
-ghost use Rattle.std.specs.Prelude.{◌≡◌};
-ghost use Rattle.e3_cards.specs.Cards.{blank};
-ghost use Rattle.e3_cards.specs.Tables.{card_at};
+ghost use Rattle.std.specs.Prelude.{◌≡◌, cond, Some, None, OnOk, OnErr, option_copied};
+ghost use Rattle.std.specs.BTreeMap.{is_at};
+ghost use Rattle.std.specs.Map.{lookup};
+ghost use Rattle.e3_cards.specs.Cards.{blank, kept};
+ghost use Rattle.e3_cards.specs.Tables.{card_at, key_cmp};
+ghost use Rattle.e3_cards.specs.declared.keys.TxnKey.{TxnKey as KeptKey};
 
 use crate::card::{Card, Change};
 use crate::keys::{TxnKey, txn_key};
-use e3_types::{List, Txn};
+use e3_types::{List, NoMemory, Txn};
 use std::collections::BTreeMap;
 
 /// What a site keeps of its transactions: its number and its incarnation, how many Begins and Elects it took in this
@@ -27,6 +30,13 @@ pub struct Changes {
     pub cards: List<Change>,
 }
 
+/// The card of a transaction, if it has one.
+pub(crate) fn card_at<'a>(map: &'a BTreeMap<TxnKey, Card>, t: &Txn) -> Option<&'a Card>
+    ensures { kept (option_copied result) ≡ card_at map.now.entries t.now }
+{
+    map.get(&txn_key(t))
+}
+
 /// The card of a transaction, or the blank one.
 pub fn card_or<'a>(map: &'a BTreeMap<TxnKey, Card>, t: &Txn, none: &'a Card) -> &'a Card
     requires { none.now ≡ blank }
@@ -35,5 +45,22 @@ pub fn card_or<'a>(map: &'a BTreeMap<TxnKey, Card>, t: &Txn, none: &'a Card) -> 
     match map.get(&txn_key(t)) {
         Some(card) => card,
         None => none,
+    }
+}
+
+/// The card of a key is this one from now on. Only a key without a card can want for memory.
+pub(crate) fn put_card(
+    map: &mut BTreeMap<TxnKey, Card>,
+    key: TxnKey,
+    card: Card,
+) -> Result<(), NoMemory>
+    ensures put { OnOk result ((k : KeptKey) → lookup (is_at (key_cmp k)) map.new.entries ≡ cond (is_at (key_cmp key) k) (Some card) (lookup (is_at (key_cmp k)) map.old.entries)) }
+    ensures found { OnOk result (lookup (is_at (key_cmp key)) map.new.entries ≡ Some card) }
+    ensures absent { OnErr result (lookup (is_at (key_cmp key)) map.old.entries ≡ None) }
+    ensures kept { OnErr result (map.new.entries ≡ map.old.entries) }
+{
+    match map.insert(key, card) {
+        Ok(_) => Ok(()),
+        Err(_) => Err(NoMemory),
     }
 }

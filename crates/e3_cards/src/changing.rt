@@ -11,7 +11,7 @@ ghost use Rattle.e3_world.specs.Transactions.{IsFoundByBits};
 ghost use Rattle.e3_cards.specs.Tables.{card_at, call_now, txn_key, touched, change_of, put, CardsStand, AreChanges, AreCountable, HasCard, HasRoom, IsRoomier};
 
 use crate::card::{Card, Change, blank};
-use crate::cards::{Cards, Changes};
+use crate::cards::{Cards, Changes, put_card};
 use crate::copying::copy_at;
 use crate::keys::{TxnKey, txn_key};
 use crate::stepping::step_card;
@@ -83,10 +83,7 @@ fn ready_one(alloc: Global, map: &mut BTreeMap<TxnKey, Card>, key: TxnKey) -> Re
     if map.contains_key(&key) {
         return Ok(());
     }
-    match map.insert(key, blank(alloc)) {
-        Ok(_) => Ok(()),
-        Err(_) => Err(NoMemory),
-    }
+    put_card(map, key, blank(alloc))
 }
 
 /// Makes room for changes: behind it there is a card for each of them. No card is another, and it may be done twice.
@@ -113,7 +110,7 @@ fn put_one(map: &mut BTreeMap<TxnKey, Card>, change: Change)
     ensures keys { (k : KeptKey) → HasCard map.old.entries k → HasCard map.new.entries k }
 {
     found_by_bits(&change.txn);
-    let _ = map.insert(txn_key(&change.txn), change.card);
+    let _ = put_card(map, txn_key(&change.txn), change.card);
 }
 
 fn put_all(map: &mut BTreeMap<TxnKey, Card>, changes: List<Change>)

@@ -1,58 +1,37 @@
 // Copies of cards.
-ghost use Rattle.std.specs.Prelude.{◌≡◌, IfOk};
+ghost use Rattle.std.specs.Prelude.{◌≡◌, ◌++◌, IfOk};
+ghost use Rattle.e3_cards.specs.Cards.{blank};
 ghost use Rattle.e3_cards.specs.Tables.{card_at};
 
 use crate::card::{Card, Heard, blank};
-use crate::cards::card_or;
-use crate::keys::TxnKey;
+use crate::keys::{TxnKey, txn_key};
 use e3_elect::Election;
 use e3_readings::add_asked;
 use e3_types::{Copied, List, NoMemory, Op, Txn};
-use e3_world::Asked;
 use std::alloc::Global;
 use std::collections::BTreeMap;
 
-/// An equal list.
-pub(crate) fn copy_all<T: Copy + Drop>(alloc: Global, items: &[T]) -> Result<List<T>, NoMemory>
-    ensures { IfOk result (λ out. out ≡ items.now) }
+/// Adds copies of these operations.
+pub(crate) fn add_ops(ops: &[Op], out: &mut List<Op>) -> Result<(), NoMemory>
+    ensures { IfOk result (λ u. out.new ≡ out.old ++ ops.now) }
 {
-    let mut out = List::new(alloc);
-    out.extend(items)?;
-    Ok(out)
-}
-
-/// An equal list.
-pub(crate) fn copy_ops(alloc: Global, ops: &[Op]) -> Result<List<Op>, NoMemory>
-    ensures { IfOk result (λ out. out ≡ ops.now) }
-{
-    let mut out = List::new(alloc);
     for x in ops {
         out.push(x.copy())?;
     }
-    Ok(out)
+    Ok(())
 }
 
-/// An equal list.
-pub(crate) fn copy_came(alloc: Global, came: &[Asked]) -> Result<List<Asked>, NoMemory>
-    ensures { IfOk result (λ out. out ≡ came.now) }
+/// Adds copies of these answers.
+pub(crate) fn add_all_heard(heard: &[Heard], out: &mut List<Heard>) -> Result<(), NoMemory>
+    ensures { IfOk result (λ u. out.new ≡ out.old ++ heard.now) }
 {
-    let mut out = List::new(alloc);
-    add_asked(came, &mut out)?;
-    Ok(out)
-}
-
-/// An equal list.
-pub(crate) fn copy_heard(alloc: Global, heard: &[Heard]) -> Result<List<Heard>, NoMemory>
-    ensures { IfOk result (λ out. out ≡ heard.now) }
-{
-    let mut out = List::new(alloc);
     for x in heard {
         out.push(Heard {
             n: x.n,
             answer: x.answer.copy(),
         })?;
     }
-    Ok(out)
+    Ok(())
 }
 
 /// A copy of the election in progress.
@@ -68,27 +47,67 @@ pub(crate) fn copy_election(
     }
 }
 
-fn copy_card(alloc: Global, card: &Card) -> Result<Card, NoMemory>
-    ensures { IfOk result (λ out. out ≡ card.now) }
+// Adds copies of what is kept of a transaction at its coordinator.
+fn add_issued(card: &Card, out: &mut Card) -> Result<(), NoMemory>
+    ensures { IfOk result (λ u. out.new ≡ record out.old {
+      issued = out.old.issued ++ card.now.issued;
+      answered = out.old.answered ++ card.now.answered;
+      counted = out.old.counted ++ card.now.counted;
+      reasons = out.old.reasons ++ card.now.reasons;
+    }) }
 {
-    Ok(Card {
-        seen: card.seen,
-        issued: copy_ops(alloc, card.issued.as_slice())?,
-        answered: copy_all(alloc, card.answered.as_slice())?,
-        counted: copy_all(alloc, card.counted.as_slice())?,
-        reasons: copy_all(alloc, card.reasons.as_slice())?,
-        came: copy_came(alloc, card.came.as_slice())?,
-        heard: copy_heard(alloc, card.heard.as_slice())?,
-        votes: card.votes,
-        election: copy_election(alloc, &card.election)?,
-        rounds: card.rounds.copy(),
-    })
+    add_ops(card.issued.as_slice(), &mut out.issued)?;
+    out.answered.extend(card.answered.as_slice())?;
+    out.counted.extend(card.counted.as_slice())?;
+    out.reasons.extend(card.reasons.as_slice())
+}
+
+// Adds copies of the operations that came, and of their answers.
+fn add_arrived(card: &Card, out: &mut Card) -> Result<(), NoMemory>
+    ensures { IfOk result (λ u. out.new ≡ record out.old {
+      came = out.old.came ++ card.now.came;
+      heard = out.old.heard ++ card.now.heard;
+    }) }
+{
+    add_asked(card.came.as_slice(), &mut out.came)?;
+    add_all_heard(card.heard.as_slice(), &mut out.heard)
+}
+
+// A blank card becomes a copy of this one.
+fn fill(alloc: Global, card: &Card, out: &mut Card) -> Result<(), NoMemory>
+    requires { out.old ≡ blank }
+    ensures { IfOk result (λ u. out.new ≡ card.now) }
+{
+    add_issued(card, out)?;
+    add_arrived(card, out)?;
+    out.election = copy_election(alloc, &card.election)?;
+    out.seen = card.seen;
+    out.votes = card.votes;
+    out.rounds = card.rounds.copy();
+    Ok(())
+}
+
+// A blank card becomes a copy of the transaction's: what may be refused borrows it.
+fn fill_at(
+    alloc: Global,
+    map: &BTreeMap<TxnKey, Card>,
+    t: &Txn,
+    out: &mut Card,
+) -> Result<(), NoMemory>
+    requires { out.old ≡ blank }
+    ensures { IfOk result (λ u. out.new ≡ card_at map.now.entries t.now) }
+{
+    match map.get(&txn_key(t)) {
+        Some(card) => fill(alloc, card, out),
+        None => Ok(()),
+    }
 }
 
 /// A copy of the card of a transaction, or a blank one.
 pub fn copy_at(alloc: Global, map: &BTreeMap<TxnKey, Card>, t: &Txn) -> Result<Card, NoMemory>
     ensures { IfOk result (λ card. card ≡ card_at map.now.entries t.now) }
 {
-    let none = blank(alloc);
-    copy_card(alloc, card_or(map, t, &none))
+    let mut out = blank(alloc);
+    fill_at(alloc, map, t, &mut out)?;
+    Ok(out)
 }

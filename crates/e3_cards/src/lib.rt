@@ -10,6 +10,7 @@ mod changing;
 mod copying;
 mod electing;
 mod issued;
+mod kept;
 mod keys;
 mod noting;
 mod operations;

@@ -10,7 +10,7 @@ ghost use Rattle.e3_world.specs.Transactions.{IsFoundByBits};
 ghost use Rattle.e3_cards.specs.Tables.{card_at, CardsStand};
 
 use crate::card::{Card, blank};
-use crate::cards::Cards;
+use crate::cards::{Cards, put_card};
 use crate::keys::{TxnKey, txn_key};
 use crate::seen::seen_by;
 use e3_readings::txn_of_record;
@@ -37,14 +37,11 @@ fn note_at(kept: &mut BTreeMap<TxnKey, Card>, t: &Txn, r: &Record) -> bool
 }
 
 // The card of a transaction is this one from now on.
-fn put_card(kept: &mut BTreeMap<TxnKey, Card>, t: &Txn, card: Card) -> Result<(), NoMemory>
+fn put_of(kept: &mut BTreeMap<TxnKey, Card>, t: &Txn, card: Card) -> Result<(), NoMemory>
     ensures { OnOk result ((u : SomeTxn) → IsFoundByBits u → card_at kept.new.entries u ≡ (if same_txn t.now u then card else card_at kept.old.entries u)) }
 {
     found_by_bits(t);
-    match kept.insert(txn_key(t), card) {
-        Ok(_) => Ok(()),
-        Err(_) => Err(NoMemory),
-    }
+    put_card(kept, txn_key(t), card)
 }
 
 fn noted(was: Card, t: &Txn, r: &Record) -> Card
@@ -67,7 +64,7 @@ fn note_in(
     if note_at(kept, t, r) {
         return Ok(());
     }
-    put_card(kept, t, noted(blank(alloc), t, r))
+    put_of(kept, t, noted(blank(alloc), t, r))
 }
 
 fn note_of(alloc: Global, cards: &mut Cards, t: &Txn, r: &Record) -> Result<(), NoMemory>

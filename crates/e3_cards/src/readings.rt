@@ -1,5 +1,5 @@
 // What the rules of a step read of a transaction, where the cards stand for the place of the step.
-ghost use Rattle.std.specs.Prelude.{◌≡◌, ◌==◌, ◌<◌, if◌then◌else◌, IfOk, length, fold};
+ghost use Rattle.std.specs.Prelude.{◌≡◌, ◌==◌, ◌<◌, if◌then◌else◌, IfOk, length, fold, option_copied};
 ghost use Rattle.std.specs.List.{list_any};
 ghost use Rattle.e3_types.specs.Same.{same_txn};
 ghost use Rattle.e3_world.specs.declared.lives.At.{At as Place};
@@ -10,20 +10,19 @@ ghost use Rattle.e3_world.specs.Rounds.{round_in_progress};
 ghost use Rattle.e3_readings.specs.Gathering.{are_complete, has_every_yes, votes_by};
 ghost use Rattle.e3_readings.specs.Awaiting.{first_of, is_awaited};
 ghost use Rattle.e3_readings.specs.Expecting.{own_expected};
-ghost use Rattle.e3_cards.specs.Cards.{blank, card_of};
+ghost use Rattle.e3_cards.specs.Cards.{card_of, kept};
 ghost use Rattle.e3_cards.specs.Readings.{expected_of, done_of};
 ghost use Rattle.e3_cards.specs.Seeing.{seen_of};
-ghost use Rattle.e3_cards.specs.Tables.{AreCountable, CardsStand, IsCountable, card_at, call_now};
+ghost use Rattle.e3_cards.specs.Tables.{AreCountable, CardsStand, IsCountable, call_now};
 
-use crate::card::{Card, blank};
-use crate::cards::{Cards, card_or};
-use crate::copying::copy_election;
-use crate::keys::txn_key;
+use crate::card::Card;
+use crate::cards::{Cards, card_at};
+use crate::kept::{election_of, issued_of, reasons_of, round_of, seen_of, votes_of};
 use crate::operations::{
     answer_of, awaits, done_of, done_with, expected_of, is_waiting_now, own_with, unanswered_now,
     waits_now,
 };
-use crate::seen::{Seen, unseen};
+use crate::seen::Seen;
 use e3_commit::Acks;
 use e3_elect::Election;
 use e3_readings::{first_reason, have_every_yes, own_expected, votes_after};
@@ -31,27 +30,14 @@ use e3_types::{Answer, Call, Input, List, Name, NoMemory, Refusal, Txn};
 use e3_world::{Asked, Expected, Made, Performed, found_by_bits};
 use std::alloc::Global;
 
-fn seen_at(cards: &Cards, t: &Txn) -> Seen
-    ensures { result ≡ (card_at cards.now.map.entries t.now).seen }
-{
-    match cards.map.get(&txn_key(t)) {
-        Some(card) => card.seen,
-        None => unseen(),
-    }
-}
-
-fn round_at(cards: &Cards, t: &Txn) -> Option<Acks>
-    ensures { result ≡ (card_at cards.now.map.entries t.now).rounds.now }
-{
-    match cards.map.get(&txn_key(t)) {
-        Some(card) => card.rounds.in_progress(),
-        None => None,
-    }
-}
-
-fn expected_from(alloc: Global, cards: &Cards, card: &Card, of: u32) -> Result<Expected, NoMemory>
-    requires { IsCountable card.now }
-    ensures { IfOk result (λ e. e ≡ (if cards.now.site == of then own_expected cards.now.inc (done_of card.now) else expected_of of card.now)) }
+fn expected_from(
+    alloc: Global,
+    cards: &Cards,
+    card: Option<&Card>,
+    of: u32,
+) -> Result<Expected, NoMemory>
+    requires { IsCountable (kept (option_copied card)) }
+    ensures { IfOk result (λ e. e ≡ (if cards.now.site == of then own_expected cards.now.inc (done_of (kept (option_copied card.entry))) else expected_of of (kept (option_copied card.entry)))) }
 {
     if cards.site == of {
         let done = done_of(alloc, card)?;
@@ -61,35 +47,28 @@ fn expected_from(alloc: Global, cards: &Cards, card: &Card, of: u32) -> Result<E
     }
 }
 
-fn every_yes(site: u32, t: &Txn, card: &Card, input: &Input, made: &Made) -> bool
-    ensures { result ≡ are_complete (votes_by site t.now card.now.votes input.now made.now.told) }
+fn every_yes(site: u32, t: &Txn, card: Option<&Card>, input: &Input, made: &Made) -> bool
+    ensures { result ≡ are_complete (votes_by site t.now (kept (option_copied card.entry)).votes input.now made.now.told) }
 {
-    have_every_yes(votes_after(site, t, card.votes, input, made.told.as_slice()))
-}
-
-fn reason_of(card: &Card) -> Option<Refusal>
-    ensures { result ≡ first_of card.now.reasons }
-{
-    first_reason(card.reasons.as_slice())
+    let votes = votes_of(card);
+    have_every_yes(votes_after(site, t, votes, input, made.told.as_slice()))
 }
 
 impl Cards {
-    // The card of a transaction, or this blank one.
-    fn card_of<'a>(&'a self, t: &Txn, none: &'a Card) -> &'a Card
-        requires { none.now ≡ blank }
-        ensures card { (a : Place) → CardsStand a.site self.now a.life → result.now ≡ card_of a.site t.now a.life }
-        ensures countable { AreCountable self.now → IsCountable result.now }
+    // The card of a transaction, if it has one.
+    fn card_of(&self, t: &Txn) -> Option<&Card>
+        ensures card { (a : Place) → CardsStand a.site self.now a.life → kept (option_copied result) ≡ card_of a.site t.now a.life }
+        ensures countable { AreCountable self.now → IsCountable (kept (option_copied result)) }
     {
         found_by_bits(t);
-        card_or(&self.map, t, none)
+        card_at(&self.map, t)
     }
 
     /// What the log before the step says of the transaction.
     pub fn seen(&self, t: &Txn) -> Seen
         ensures { (a : Place) → CardsStand a.site self.now a.life → result ≡ seen_of t.now a.life.log }
     {
-        found_by_bits(t);
-        seen_at(self, t)
+        seen_of(self.card_of(t))
     }
 
     /// How many operations of the transaction the steps before this one issued.
@@ -97,8 +76,7 @@ impl Cards {
         ensures count { (a : Place) → CardsStand a.site self.now a.life → result ≡ length (issued t.now a.life.steps) }
         ensures few { AreCountable self.now → result < 4294967295 }
     {
-        let none = blank(alloc);
-        self.card_of(t, &none).issued.len()
+        issued_of(self.card_of(t)).len() as u64
     }
 
     /// The operation of the transaction that is unanswered behind the steps before this one, if it is undecided now.
@@ -106,8 +84,7 @@ impl Cards {
         requires { AreCountable self.now }
         ensures { (a : Place) → CardsStand a.site self.now a.life → result ≡ unanswered t.now (log_now a made.now) a.life.steps }
     {
-        let none = blank(alloc);
-        unanswered_now(t, self.card_of(t, &none), made)
+        unanswered_now(t, self.card_of(t), made)
     }
 
     /// Operation n of the transaction is its unanswered one, with the step so far, and its key is at site f.
@@ -123,8 +100,7 @@ impl Cards {
         requires { AreCountable self.now }
         ensures { (a : Place) → CardsStand a.site self.now a.life → a.input ≡ input.now → IfOk result (λ b. b ≡ is_awaited a f t.now n made.now) }
     {
-        let none = blank(alloc);
-        awaits(alloc, f, t, n, self.card_of(t, &none), input, made)
+        awaits(alloc, f, t, n, self.card_of(t), input, made)
     }
 
     /// What is expected of a site for the transaction.
@@ -132,24 +108,21 @@ impl Cards {
         requires { AreCountable self.now }
         ensures { (a : Place) → CardsStand a.site self.now a.life → IfOk result (λ e. e ≡ expected a.site a.life.inc t.now a.life.steps of) }
     {
-        let none = blank(alloc);
-        expected_from(alloc, self, self.card_of(t, &none), of)
+        expected_from(alloc, self, self.card_of(t), of)
     }
 
     /// The reason that is kept for the end of the transaction, if there is one.
     pub fn kept_reason(&self, alloc: Global, t: &Txn) -> Option<Refusal>
         ensures { (a : Place) → CardsStand a.site self.now a.life → result ≡ first_of (kept_reason t.now a.life.steps) }
     {
-        let none = blank(alloc);
-        reason_of(self.card_of(t, &none))
+        first_reason(reasons_of(self.card_of(t)))
     }
 
     /// The operations of the transaction that the site answered before the step, in the order of arrival.
     pub fn done(&self, alloc: Global, t: &Txn) -> Result<List<Performed>, NoMemory>
         ensures { (a : Place) → CardsStand a.site self.now a.life → IfOk result (λ out. out ≡ done a.site t.now a.life.steps) }
     {
-        let none = blank(alloc);
-        done_of(alloc, self.card_of(t, &none))
+        done_of(alloc, self.card_of(t))
     }
 
     /// The value that the transaction's last write of the name here gave it, with the step so far, or else this row.
@@ -165,8 +138,7 @@ impl Cards {
         requires { AreCountable self.now }
         ensures { (a : Place) → CardsStand a.site self.now a.life → a.input ≡ input.now → IfOk result (λ x. x ≡ fold (own_write name.now) row (done a.site t.now (steps_now a made.now))) }
     {
-        let none = blank(alloc);
-        let card = self.card_of(t, &none);
+        let card = self.card_of(t);
         own_with(alloc, self.site, t, name, row, card, input, made)
     }
 
@@ -174,48 +146,42 @@ impl Cards {
     pub fn answer(&self, alloc: Global, q: &Asked) -> Option<Answer>
         ensures { (a : Place) → CardsStand a.site self.now a.life → result ≡ first_of (answers q.now a.life.steps) }
     {
-        let none = blank(alloc);
-        answer_of(self.card_of(&q.txn, &none), q.n)
+        answer_of(self.card_of(&q.txn), q.n)
     }
 
     /// The operation waited before the step, and its transaction is undecided now.
     pub fn is_waiting(&self, alloc: Global, q: &Asked, made: &Made) -> bool
         ensures { (a : Place) → CardsStand a.site self.now a.life → result ≡ list_any (same_asked q.now) (waiting a.site (log_now a made.now) a.life.steps) }
     {
-        let none = blank(alloc);
-        is_waiting_now(q, self.card_of(&q.txn, &none), made)
+        is_waiting_now(q, self.card_of(&q.txn), made)
     }
 
     /// An operation of the transaction waited before the step, and the transaction is undecided now.
     pub fn waits(&self, alloc: Global, t: &Txn, made: &Made) -> bool
         ensures { (a : Place) → CardsStand a.site self.now a.life → result ≡ list_any (λ q. same_txn t.now q.txn) (waiting a.site (log_now a made.now) a.life.steps) }
     {
-        let none = blank(alloc);
-        waits_now(t, self.card_of(t, &none), made)
+        waits_now(t, self.card_of(t), made)
     }
 
     /// The votes of the transaction are being gathered, and with the step so far the yes of every other site came.
     pub fn has_every_yes(&self, alloc: Global, t: &Txn, input: &Input, made: &Made) -> bool
         ensures { (a : Place) → CardsStand a.site self.now a.life → a.input ≡ input.now → result ≡ has_every_yes a t.now made.now }
     {
-        let none = blank(alloc);
-        every_yes(self.site, t, self.card_of(t, &none), input, made)
+        every_yes(self.site, t, self.card_of(t), input, made)
     }
 
     /// The election of the transaction that is in progress before the step, if there is one.
     pub fn election(&self, alloc: Global, t: &Txn) -> Result<Option<Election>, NoMemory>
         ensures { (a : Place) → CardsStand a.site self.now a.life → IfOk result (λ e. e ≡ election_in_progress a.site a.life.inc t.now a.life.steps) }
     {
-        let none = blank(alloc);
-        copy_election(alloc, &self.card_of(t, &none).election)
+        election_of(alloc, self.card_of(t))
     }
 
     /// The round of the transaction that is in progress before the step, if there is one.
     pub fn round(&self, t: &Txn) -> Option<Acks>
         ensures { (a : Place) → CardsStand a.site self.now a.life → result ≡ round_in_progress a.site t.now a.life.steps }
     {
-        found_by_bits(t);
-        round_at(self, t)
+        round_of(self.card_of(t))
     }
 
     /// The call of an election that the step begins.

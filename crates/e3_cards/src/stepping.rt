@@ -110,6 +110,25 @@ fn and_gathered(
     Ok(())
 }
 
+// What a step makes of a card, in its place: what may be refused borrows the card.
+fn step_on(
+    alloc: Global,
+    site: u32,
+    inc: u32,
+    calls: u32,
+    t: &Txn,
+    card: &mut Card,
+    step: &SiteStep,
+) -> Result<(), NoMemory>
+    requires calls { calls < 4294967295 }
+    requires issued { length card.old.issued < 4294967295 }
+    ensures { IfOk result (λ u. card.new ≡ card_by site (record { inc = inc; seq = suc calls }) t.now card.old step.now) }
+{
+    and_arrived(site, t, step, card)?;
+    and_issued(t, step, card)?;
+    and_gathered(alloc, site, inc, calls, t, step, card)
+}
+
 /// What a step makes of a card, where a site of this incarnation took so many Elects before.
 pub fn step_card(
     alloc: Global,
@@ -125,8 +144,6 @@ pub fn step_card(
     ensures { IfOk result (λ card. card ≡ card_by site (record { inc = inc; seq = suc calls }) t.now was step.now) }
 {
     let mut card = was;
-    and_arrived(site, t, step, &mut card)?;
-    and_issued(t, step, &mut card)?;
-    and_gathered(alloc, site, inc, calls, t, step, &mut card)?;
+    step_on(alloc, site, inc, calls, t, &mut card, step)?;
     Ok(card)
 }

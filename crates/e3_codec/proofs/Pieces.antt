@@ -1,5 +1,5 @@
 -- Writing one field behind the other writes them all.
-use Rattle.std.proofs.Common.{◌≡◌, ◌<◌, ◌/◌, ◌%◌, ◌++◌, ◌∷◌, [], ℕ, List, arith, ap, ◌∙◌, append_assoc}
+use Rattle.std.proofs.Common.{Result, Ok, Err, OnOk, ◌≡◌, ◌<◌, ◌/◌, ◌%◌, ◌++◌, ◌∷◌, [], ℕ, List, arith, ap, ◌∙◌, append_assoc}
 use Rattle.e3_types.specs.Spelling.{u8}
 
 -- a byte is spelled by itself
@@ -26,7 +26,7 @@ appended_5 out a b c d e p q r s t ep eq er es et =
 pub behind_head : (out a b c p q : List ℕ) → p ≡ out ++ (a ++ b) → q ≡ p ++ c → q ≡ out ++ (a ++ (b ++ c))
 behind_head out a b c p q ep eq = let all : q ≡ (out ++ (a ++ b)) ++ c = eq ∙ ap (λ (l : List ℕ). l ++ c) ep in all ∙ simp append_assoc
 
--- and a fourth
-pub behind_two : (out a b c d p q r : List ℕ) → p ≡ out ++ (a ++ b) → q ≡ p ++ c → r ≡ q ++ d → r ≡ out ++ (a ++ (b ++ (c ++ d)))
-behind_two out a b c d p q r ep eq er =
-    let all : r ≡ ((out ++ (a ++ b)) ++ c) ++ d = er ∙ ap (λ (l : List ℕ). l ++ d) (eq ∙ ap (λ (l : List ℕ). l ++ c) ep) in all ∙ simp append_assoc
+-- what follows with Ok from what holds with Ok
+pub on_ok : {T E P Q : Type 0} (r : Result T E) → (P → Q) → OnOk r P → OnOk r Q
+on_ok (Ok x) follows holds = follows holds
+on_ok (Err e) follows holds = holds

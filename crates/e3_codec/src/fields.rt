@@ -138,8 +138,7 @@ pub fn val_at(bytes: &[u8]) -> Result<(Val, &[u8]), Fault>
 pub fn put_u8(out: &mut List<u8>, n: u8) -> Result<(), NoMemory>
     ensures { OnOk result (out.new ≡ out.old ++ u8 n) }
 {
-    out.push(n)?;
-    Ok(())
+    out.push(n)
 }
 
 /// Writes a number of four bytes.
@@ -147,24 +146,21 @@ pub fn put_u8(out: &mut List<u8>, n: u8) -> Result<(), NoMemory>
 pub fn put_u32(out: &mut List<u8>, n: u32) -> Result<(), NoMemory>
     ensures { OnOk result (out.new ≡ out.old ++ u32 n) }
 {
-    out.extend(&n.to_be_bytes())?;
-    Ok(())
+    out.extend(&n.to_be_bytes())
 }
 
 #[tactic(auto, using(crate::proofs::Formats::high_2))]
 fn put_u16(out: &mut List<u8>, n: u16) -> Result<(), NoMemory>
     ensures { OnOk result (out.new ≡ out.old ++ u16 n) }
 {
-    out.extend(&n.to_be_bytes())?;
-    Ok(())
+    out.extend(&n.to_be_bytes())
 }
 
 #[tactic(auto, using(crate::proofs::Formats::high_8))]
 fn put_u64(out: &mut List<u8>, n: u64) -> Result<(), NoMemory>
     ensures { OnOk result (out.new ≡ out.old ++ high_first 8 n) }
 {
-    out.extend(&n.to_be_bytes())?;
-    Ok(())
+    out.extend(&n.to_be_bytes())
 }
 
 fn put_sites(out: &mut List<u8>, sites: SiteSet) -> Result<(), NoMemory>
@@ -180,8 +176,7 @@ pub fn put_txn(out: &mut List<u8>, t: &Txn) -> Result<(), NoMemory>
     put_u32(out, t.site)?;
     put_u32(out, t.inc)?;
     put_u32(out, t.seq)?;
-    put_sites(out, t.sites)?;
-    Ok(())
+    put_sites(out, t.sites)
 }
 
 /// Writes a direction.
@@ -216,8 +211,7 @@ pub fn put_name(out: &mut List<u8>, name: &Name) -> Result<(), NoMemory>
     ensures { OnOk result (out.new ≡ out.old ++ spell_name name.now) }
 {
     put_u8(out, name_len(name))?;
-    out.extend(name.bytes())?;
-    Ok(())
+    out.extend(name.bytes())
 }
 
 /// Writes a value.
@@ -225,6 +219,5 @@ pub fn put_val(out: &mut List<u8>, val: &Val) -> Result<(), NoMemory>
     ensures { OnOk result (out.new ≡ out.old ++ spell_val val.now) }
 {
     put_u16(out, val_len(val))?;
-    out.extend(val.bytes())?;
-    Ok(())
+    out.extend(val.bytes())
 }

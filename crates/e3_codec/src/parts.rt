@@ -37,8 +37,7 @@ impl Field for Row {
 
     fn put(&self, out: &mut List<u8>) -> Result<(), NoMemory> {
         put_name(out, &self.name)?;
-        put_val(out, &self.val)?;
-        Ok(())
+        put_val(out, &self.val)
     }
 }
 
@@ -79,14 +78,13 @@ impl Field for NumOp {
         match &self.op {
             Op::Read(key) => {
                 put_u8(out, 0)?;
-                put_name(out, &key.name)?;
+                put_name(out, &key.name)
             }
             Op::Write(key, val) => {
                 put_u8(out, 1)?;
                 put_name(out, &key.name)?;
-                put_val(out, val)?;
+                put_val(out, val)
             }
         }
-        Ok(())
     }
 }

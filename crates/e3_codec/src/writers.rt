@@ -1,7 +1,7 @@
 // From records to bytes.
 ghost use Rattle.std.specs.Prelude.{◌≡◌, ◌++◌, IfOk, OnOk};
 ghost use Rattle.std.specs.List.{AllByRecursion};
-ghost use Rattle.e3_types.specs.Spelling.{spell_record, spell_txn, spelling, u8};
+ghost use Rattle.e3_types.specs.Spelling.{spell_record, spell_txn, spelling, u8, u32};
 ghost use Rattle.e3_types.specs.declared.records.Record.TheVariants as log;
 ghost use Rattle.e3_codec.specs.Fields.{HasSpelling};
 
@@ -24,8 +24,7 @@ fn put_birth(
     put_u32(out, format)?;
     put_u32(out, site)?;
     put_list(out, weights)?;
-    put_list(out, rows)?;
-    Ok(())
+    put_list(out, rows)
 }
 
 // The tag of a record of a transaction, and the transaction.
@@ -33,8 +32,15 @@ fn put_head(out: &mut List<u8>, tag: u8, txn: &Txn) -> Result<(), NoMemory>
     ensures { OnOk result (out.new ≡ out.old ++ (u8 tag ++ spell_txn txn.now)) }
 {
     put_u8(out, tag)?;
-    put_txn(out, txn)?;
-    Ok(())
+    put_txn(out, txn)
+}
+
+// Such a head, and the number that follows it.
+fn put_numbered(out: &mut List<u8>, tag: u8, txn: &Txn, n: u32) -> Result<(), NoMemory>
+    ensures { OnOk result (out.new ≡ out.old ++ (u8 tag ++ (spell_txn txn.now ++ u32 n))) }
+{
+    put_head(out, tag, txn)?;
+    put_u32(out, n)
 }
 
 fn put_vote(out: &mut List<u8>, txn: &Txn, ops: &[NumOp]) -> Result<(), NoMemory>
@@ -42,8 +48,7 @@ fn put_vote(out: &mut List<u8>, txn: &Txn, ops: &[NumOp]) -> Result<(), NoMemory
     ensures few { OnOk result (HasSpelling (log.Vote txn.now ops.now)) }
 {
     put_head(out, 3, txn)?;
-    put_list(out, ops)?;
-    Ok(())
+    put_list(out, ops)
 }
 
 fn put_record(out: &mut List<u8>, r: &Record) -> Result<(), NoMemory>
@@ -59,25 +64,17 @@ fn put_record(out: &mut List<u8>, r: &Record) -> Result<(), NoMemory>
         } => put_birth(out, *format, *site, weights.as_slice(), rows.as_slice()),
         Record::Inc { inc } => {
             put_u8(out, 2)?;
-            put_u32(out, *inc)?;
-            Ok(())
+            put_u32(out, *inc)
         }
         Record::Vote { txn, ops } => put_vote(out, txn, ops.as_slice()),
-        Record::Join { txn, n } => {
-            put_head(out, 4, txn)?;
-            put_u32(out, *n)?;
-            Ok(())
-        }
+        Record::Join { txn, n } => put_numbered(out, 4, txn, *n),
         Record::Attempt { txn, n, dir } => {
-            put_head(out, 5, txn)?;
-            put_u32(out, *n)?;
-            put_dir(out, *dir)?;
-            Ok(())
+            put_numbered(out, 5, txn, *n)?;
+            put_dir(out, *dir)
         }
         Record::Decision { txn, dir } => {
             put_head(out, 6, txn)?;
-            put_dir(out, *dir)?;
-            Ok(())
+            put_dir(out, *dir)
         }
     }
 }

@@ -2,3 +2,4 @@ pub mod Tearing
 pub mod Torn
 pub mod Pieces
 pub mod Padding
+pub mod Turns

@@ -107,18 +107,9 @@ impl Disk for MemDisk {
         if need > room {
             return Err(DiskFault::Full { need, room });
         }
-        match self.panel.write_turn(listed) {
-            Turn::Go => {
-                self.store.write(place as usize, bytes);
-                Ok(())
-            }
-            Turn::Stop => {
-                let leave = self.panel.leave;
-                self.store.stop_in_write(place as usize, bytes, leave);
-                Err(DiskFault::Failed)
-            }
-            Turn::Fail => Err(DiskFault::Failed),
-        }
+        let turn = self.panel.write_turn(listed);
+        let leave = self.panel.leave;
+        self.store.write_by(turn, place as usize, bytes, leave)
     }
 
     fn sync(&mut self) -> Result<(), DiskFault>

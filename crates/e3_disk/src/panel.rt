@@ -1,5 +1,5 @@
 // The power, the arm and the counts of a disk in memory.
-ghost use Rattle.std.specs.Prelude.{◌≡◌, ◌≤◌, true, if◌then◌else◌};
+ghost use Rattle.std.specs.Prelude.{◌≡◌, ◌≢◌, ◌⊎◌, ◌≤◌, true, IsTrue, if◌then◌else◌};
 ghost use Rattle.e3_disk.specs.Meters.{LAST, Reads, Writes, armed, cut, lit, new_meters};
 ghost use Rattle.e3_disk.specs.Leaves.{code_of};
 
@@ -61,6 +61,7 @@ impl Panel {
         ensures after { meters_of self.new ≡ after_turn listed (meters_of self.old) }
         ensures leave { self.new.leave ≡ self.old.leave }
         ensures meters { Writes (meters_of self.old) (meters_of self.new) (as_result result) }
+        ensures own { self.new.faults ≢ self.old.faults → (self.old.powered ≡ true) × ((self.old.calls_left ≡ 1) ⊎ IsTrue listed) }
     {
         if !self.powered {
             return Turn::Fail;

@@ -1,10 +1,12 @@
 // Bytes in memory, with the range that is not yet durable.
-ghost use Rattle.std.specs.Prelude.{◌≡◌, ◌+◌, ◌-◌, ◌≤◌, ◌^◌, max, length, take, drop, replicate, IfOk};
+ghost use Rattle.std.specs.Prelude.{◌≡◌, ◌+◌, ◌-◌, ◌≤◌, ◌^◌, ◌&&◌, nat_le, if◌then◌else◌, max, length, take, drop, Ok, Err, IfOk, IfErr, OnOk};
 ghost use Rattle.e3_disk.specs.Images.{Holds, Torn, Tears, Within, Only, blank_bytes};
 ghost use Rattle.e3_disk.specs.Leaves.{kept_by};
 ghost use Rattle.e3_disk.specs.Stored.{settled, joined, written, left};
 
+use crate::DiskFault;
 use crate::cells::Cells;
+use crate::panel::Turn;
 use e3_types::{Leave, NoMemory};
 use std::alloc::Global;
 
@@ -48,6 +50,8 @@ fn keep_range(content: &mut Cells, durable: &mut Cells, from: usize, to: usize, 
 
 impl Store {
     ghost use Rattle.e3_disk.specs.Memory.{stored_of};
+    ghost use Rattle.e3_disk.specs.Panel.{by_turn};
+    ghost use Rattle.e3_disk.specs.declared.fault.DiskFault.TheVariants.{Failed};
 
     /// The bytes 00 of a blank disk, with room for so many bytes.
     pub fn blank(alloc: Global, room: usize) -> Result<Store, NoMemory>
@@ -101,6 +105,23 @@ impl Store {
         self.to = self.to.max(end);
     }
 
+    // A write touches the range after this: where it would not, the range is made durable first.
+    fn make_near(&mut self, place: usize, count: usize)
+        requires within { place ≤ length self.old.content.bytes }
+        requires room { place + count ≤ self.old.content.room }
+        ensures after { stored_of self.new ≡ (if nat_le place self.old.to && nat_le self.old.from (place + count) then stored_of self.old else settled place (stored_of self.old)) }
+        ensures room { self.new.content.room ≡ self.old.content.room }
+        ensures behind { place ≤ self.new.to }
+        ensures before { self.new.from ≤ place + count }
+        ensures images { Within
+            (Torn self.old.from (self.old.to - self.old.from) self.old.durable.bytes)
+            (Torn self.new.from (self.new.to - self.new.from) self.new.durable.bytes) }
+    {
+        if self.to < place || place + count < self.from {
+            self.settle(place);
+        }
+    }
+
     /// Writes over what is there and past the end.
     pub fn write(&mut self, place: usize, bytes: &[u8])
         requires within { place ≤ length self.old.content.bytes }
@@ -111,12 +132,8 @@ impl Store {
             (Torn self.old.from (self.old.to - self.old.from) self.old.durable.bytes)
             (Torn self.new.from (self.new.to - self.new.from) self.new.durable.bytes) }
     {
-        if place <= self.to && self.from <= place + bytes.len() {
-            self.write_near(place, bytes);
-        } else {
-            self.settle(place);
-            self.write_near(place, bytes);
-        }
+        self.make_near(place, bytes.len());
+        self.write_near(place, bytes);
     }
 
     /// What a read gives is durable, and nothing else may be left.
@@ -140,6 +157,39 @@ impl Store {
     {
         self.write(place, bytes);
         self.stop(leave);
+    }
+
+    /// Does of a write what its turn says: it succeeds, it stops inside, or it changes nothing.
+    pub fn write_by(
+        &mut self,
+        turn: Turn,
+        place: usize,
+        bytes: &[u8],
+        leave: Leave,
+    ) -> Result<(), DiskFault>
+        requires within { place ≤ length self.old.content.bytes }
+        requires room { place + length bytes.now ≤ self.old.content.room }
+        ensures answer { result ≡ by_turn turn (Ok tt) (Err Failed) (Err Failed) }
+        ensures after { stored_of self.new ≡ by_turn turn (written place bytes.now (stored_of self.old))
+            (left leave (written place bytes.now (stored_of self.old))) (stored_of self.old) }
+        ensures written { OnOk result (Holds self.old.content.bytes place bytes.now self.new.content.bytes) }
+        ensures error { IfErr result (λ e. e ≡ Failed) }
+        ensures room { self.new.content.room ≡ self.old.content.room }
+        ensures images { Tears place (length bytes.now)
+            (Torn self.old.from (self.old.to - self.old.from) self.old.durable.bytes)
+            (Torn self.new.from (self.new.to - self.new.from) self.new.durable.bytes) }
+    {
+        match turn {
+            Turn::Go => {
+                self.write(place, bytes);
+                Ok(())
+            }
+            Turn::Stop => {
+                self.stop_in_write(place, bytes, leave);
+                Err(DiskFault::Failed)
+            }
+            Turn::Fail => Err(DiskFault::Failed),
+        }
     }
 
     /// Stops: what is durable and what the leave keeps of the range is what stands from now on.

@@ -5,7 +5,7 @@ use Rattle.e3_disk.specs.Meaning.{Meaning}
 use Rattle.e3_disk.specs.Meters.{Meters, LAST, raised}
 use Rattle.e3_fleet.specs.Stops.{NoStopIsPassed, arms_of, calls_in, codes_in, cuts_at}
 use Rattle.e3_node.specs.Bodies.{DiskStands, log_with}
-use Rattle.e3_node.specs.site_log.Ends.{IsFull}
+use Rattle.e3_node.specs.site_log.Ends.{LacksRoom}
 use Rattle.e3_types.specs.declared.entries.Act.{Act}
 use Rattle.e3_types.specs.declared.entries.Act.TheVariants.{Fall, RiseFall, Miss}
 use Rattle.e3_types.specs.declared.entries.Entry.{Entry}
@@ -43,9 +43,9 @@ HasGrownBy times before now = (before + times ≤ now) ⊎ (now ≡ LAST)
 
 -- where the entry is one for want of room, its numbers are such
 abbrev pub HadNoRoom : Scenario → List Entry → ℕ → ℕ → Act → Type 0
-HadNoRoom sc before site capacity (Fall inputs records (Full need room)) = IsFull capacity (log_of sc before site) records need room
+HadNoRoom sc before site capacity (Fall inputs records (Full need room)) = LacksRoom capacity (log_of sc before site) records need room
 HadNoRoom sc before site capacity (RiseFall kept inc (Full need room)) =
-    IsFull capacity (log_with sc before site kept) (rise_records sc site inc (log_with sc before site kept)) need room
+    LacksRoom capacity (log_with sc before site kept) (rise_records sc site inc (log_with sc before site kept)) need room
 HadNoRoom sc before site capacity act = Unit {0}
 
 -- all entries of the site for want of room have such numbers

@@ -1,18 +1,15 @@
--- The records of a trail, entry by entry, and the order, record by record.
+-- The records of a trail, entry by entry.
 use Rattle.std.proofs.Common.{◌≡◌, ◌++◌, ◌∷◌, [], ℕ, suc, ◌<◌, Bool, true, false, List, Option, Some, None, map, take, drop, length, refl, sym, ap, ◌+◌, get_or, take-suc, arith, eq-eqb, ◌∙◌, append-nil, append_assoc}
 use Rattle.std.proofs.lemmas.Grind.{flat_map-append}
 use Rattle.e3_types.specs.declared.entries.Act.{Act}
 use Rattle.e3_types.specs.declared.entries.Act.TheVariants.{Step, Fall, Rise, RiseFall, Miss, Cut, Drop, Parts, Line}
 use Rattle.e3_types.specs.declared.entries.Entry.{Entry}
-use Rattle.e3_types.specs.declared.records.Record.{Record}
-use Rattle.e3_types.specs.declared.records.Record.TheVariants as log
 use Rattle.e3_types.specs.declared.scenarios.Scenario.{Scenario}
-use Rattle.e3_world.specs.Moves.{Move, Past, Tail, Placed, own_entries, recorded, log_by, kept_moves, moves_of_act, past_of, moves_of, log_of, trail_after, trail_of, all_records}
-use Rattle.e3_world.specs.Serial.{order_in}
+use Rattle.e3_world.specs.Moves.{Move, Past, Tail, own_entries, recorded, log_by, kept_moves, moves_of_act, past_of, moves_of, log_of, trail_after, trail_of, all_records}
 use Rattle.e3_world.proofs.Pushes.{past_push}
 use Rattle.e3_world.proofs.Readings.{own_same}
 use Rattle.e3_readings.specs.Places.{placed_at}
-use Rattle.e3_judge.specs.Added.{added_by, last_vote}
+use Rattle.e3_judge.specs.Added.{added_by}
 
 -- the moves that an entry makes
 abbrev made : Scenario → List Entry → Entry → List Move
@@ -81,18 +78,6 @@ records_push sc h e =
     ∙ flat_map-append (λ m. map (λ r. record { site = m.site; entered = r }) (recorded m)) (trail_of sc h) (made sc h e)
     ∙ ap (λ z. all_records (trail_of sc h) ++ z) (records_of e.owner (made sc h e) (made_of sc e.owner (past_of sc e.owner (own_entries e.owner h)) e.act)
     ∙ ap (placed_at e.owner) (sym (added_is sc h e)))
-
--- one more record of the order
-pub order_step : (all rest : List Placed) (p : Placed) → order_in all (p ∷ rest) ≡ last_vote all rest p.entered ++ order_in all rest
-order_step all rest p = by p.entered refl
-  where
-    by : (r : Record) → p.entered ≡ r → order_in all (p ∷ rest) ≡ last_vote all rest p.entered ++ order_in all rest
-    by (log.Vote t ops) is = rw is refl
-    by (log.Birth f n w rows) is = rw is refl
-    by (log.Inc n) is = rw is refl
-    by (log.Join t n) is = rw is refl
-    by (log.Attempt t n d) is = rw is refl
-    by (log.Decision t d) is = rw is refl
 
 -- one more entry of the first so many
 pub placed_step : (sc : Scenario) (h : List Entry) (at : ℕ) (d : Entry) → at < length h →

@@ -1,7 +1,7 @@
 // Whether the inputs of a step or a fall are due at their site, behind the entries before it.
-ghost use Rattle.std.specs.Prelude.{◌≡◌, IfOk, slice_get};
+ghost use Rattle.std.specs.Prelude.{◌≡◌, ◌++◌, ◌∷◌, [], IfOk, OnOk, slice_get};
 ghost use Rattle.std.specs.List.{list_any};
-ghost use Rattle.e3_world.specs.Legal.{records_by};
+ghost use Rattle.e3_world.specs.Legal.{entry_of, made_by, records_by};
 ghost use Rattle.e3_world.specs.Packets.{pending};
 ghost use Rattle.e3_judge.specs.Checks.{is_in_order, is_next_item, delivery_is_due, round_is_due, input_is_due, inputs_are_due, same_round, is_empty};
 ghost use Rattle.e3_judge.specs.Equal.{is_some, same_input, same_packet};
@@ -10,7 +10,8 @@ use crate::equal::Same;
 use crate::prefix::Prefix;
 use crate::{has_delivery, is_calm, present_items, turn_of};
 use e3_readings::RecoveryRound;
-use e3_types::{Input, List, NoMemory, Packet, Record, SiteSet, Txn};
+use e3_types::{Entry, Input, List, NoMemory, Packet, Record, Scenario, SiteSet, Txn};
+use std::alloc::Global;
 
 // Nothing is here.
 pub(crate) fn is_empty<T>(items: &[T]) -> bool
@@ -51,6 +52,20 @@ pub fn is_round(round: &RecoveryRound, txn: &Txn, group: SiteSet, site: u32) -> 
     ensures { result ≡ same_round round.now (record { txn = txn.now; members = group; elector = site }) }
 {
     round.txn.is_same(txn) && round.members.is_same(group) && round.elector == site
+}
+
+// The entries with that of the step which the input would make behind them.
+fn go_on(
+    alloc: Global,
+    scenario: &Scenario,
+    history: &mut List<Entry>,
+    site: u32,
+    input: &Input,
+) -> Result<(), NoMemory>
+    ensures { OnOk result (history.new ≡ history.old ++ entry_of scenario.now history.old site input.now ∷ []) }
+{
+    let entry = Prefix::of(alloc, scenario, history.as_slice()).entry_of(site, input)?;
+    history.push(entry)
 }
 
 impl Prefix<'_> {
@@ -119,6 +134,14 @@ impl Prefix<'_> {
         }
     }
 
+    // Adds the records of the step that the input would make.
+    fn add_records(&self, site: u32, input: &Input, out: &mut List<Record>) -> Result<(), NoMemory>
+        ensures { OnOk result (out.new ≡ out.old ++ (made_by self.now.scenario.now self.now.entries.now site input.now).records) }
+    {
+        let made = self.made_by(site, input)?;
+        out.add_copies(self.alloc, made.records.as_slice())
+    }
+
     /// Each input of a fall is due behind the steps that those before it would make.
     pub(crate) fn inputs_are_due(&self, site: u32, inputs: &[Input]) -> Result<bool, NoMemory>
         ensures { IfOk result (λ b. b ≡ inputs_are_due self.now.scenario.now self.now.entries.now site inputs.now) }
@@ -129,8 +152,7 @@ impl Prefix<'_> {
             if !prefix.input_is_due(site, input)? {
                 return Ok(false);
             }
-            let entry = prefix.entry_of(site, input)?;
-            history.push(entry)?;
+            go_on(self.alloc, self.scenario, &mut history, site, input)?;
         }
         Ok(true)
     }
@@ -143,10 +165,8 @@ impl Prefix<'_> {
         let mut history = List::of_copies(self.alloc, self.entries)?;
         for input in inputs {
             let prefix = Prefix::of(self.alloc, self.scenario, history.as_slice());
-            let made = prefix.made_by(site, input)?;
-            out.add_copies(self.alloc, made.records.as_slice())?;
-            let entry = prefix.entry_of(site, input)?;
-            history.push(entry)?;
+            prefix.add_records(site, input, &mut out)?;
+            go_on(self.alloc, self.scenario, &mut history, site, input)?;
         }
         Ok(out)
     }

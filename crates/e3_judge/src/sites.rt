@@ -1,10 +1,11 @@
 // What a site's own entries come to: its incarnation and its open tail, and so its log.
-ghost use Rattle.std.specs.Prelude.{◌≡◌, ◌++◌, ◌∷◌, [], Option, Some, None, fold, map, suc, length, ◌+◌, IfOk};
+ghost use Rattle.std.specs.Prelude.{◌≡◌, ◌++◌, ◌∷◌, [], Option, Some, None, fold, map, suc, length, ◌+◌, IfOk, OnOk};
+ghost use Rattle.e3_types.specs.declared.entries.Act.TheVariants as act;
 ghost use Rattle.e3_world.specs.Lives.{incarnation_of, present_log};
 ghost use Rattle.e3_world.specs.Moves.{left_by, log_of, moves_of, open_tail, own_entries, unnumbered, unnumbered_input, rise_records};
 ghost use Rattle.e3_world.specs.Legal.{entry_of, made_by, numbered};
 ghost use Rattle.e3_world.specs.Packets.{sent};
-ghost use Rattle.e3_judge.specs.Standing.{kept_in, nothing_yet, standing_by, stepped};
+ghost use Rattle.e3_judge.specs.Standing.{kept_in, nothing_yet, standing_by};
 
 use crate::counts::{add, count_on};
 use crate::packets::sent_count;
@@ -78,13 +79,16 @@ fn risen(alloc: Global, now: &Incarnation, records: &[Record]) -> Result<Incarna
 }
 
 // A tail that is kept goes into the log; one that is not, or none, leaves all as it was.
-fn kept_in(alloc: Global, was: Standing, kept: bool) -> Result<Incarnation, NoMemory>
-    ensures { IfOk result (λ i. i ≡ kept_in was.incarnation kept was.tail) }
+fn keep(alloc: Global, standing: &mut Standing, kept: bool) -> Result<(), NoMemory>
+    ensures { OnOk result (standing.new.incarnation ≡ kept_in standing.old.incarnation kept standing.old.tail) }
 {
-    let now = was.incarnation;
-    match was.tail {
-        Some(tail) if kept => risen(alloc, &now, tail.records.as_slice()),
-        _ => Ok(now),
+    match &standing.tail {
+        Some(tail) if kept => {
+            let now = risen(alloc, &standing.incarnation, tail.records.as_slice())?;
+            standing.incarnation = now;
+            Ok(())
+        }
+        _ => Ok(()),
     }
 }
 
@@ -121,50 +125,38 @@ fn left_by(why: Why, inputs: List<Input>, records: List<Record>) -> Option<Tail>
     }
 }
 
-// A step is one more since the rise.
-fn with_step(
+// A step, as an incarnation keeps it.
+fn step_kept(
     alloc: Global,
-    was: Standing,
     input: &Input,
     records: &List<Record>,
     outs: &List<Packet>,
     told: &List<Told>,
-) -> Result<Standing, NoMemory>
-    ensures { IfOk result (λ s. s ≡ record { incarnation = stepped was.incarnation input.now records.now outs.now told.now; tail = was.tail }) }
+) -> Result<SiteStep, NoMemory>
+    ensures { IfOk result (λ s. s ≡ record { input = unnumbered_input input.now; records = records.now; outs = map unnumbered outs.now; told = told.now }) }
 {
-    let now = was.incarnation;
-    let mut since = now.since;
-    since.push(SiteStep {
+    Ok(SiteStep {
         input: unnumbered_input(input),
         records: records.copied(alloc)?,
         outs: unnumbered_outs(alloc, outs.as_slice())?,
         told: told.copied(alloc)?,
-    })?;
-    Ok(Standing {
-        incarnation: Incarnation {
-            rose: now.rose,
-            since,
-        },
-        tail: was.tail,
     })
 }
 
 // A fall.
-fn with_fall(
+fn fall(
     alloc: Global,
-    was: Standing,
+    standing: &mut Standing,
     inputs: &List<Input>,
     records: &List<Record>,
     why: Why,
-) -> Result<Standing, NoMemory>
-    ensures { IfOk result (λ s. s ≡ record { incarnation = was.incarnation; tail = left_by why (map unnumbered_input inputs.now) records.now }) }
+) -> Result<(), NoMemory>
+    ensures { OnOk result (standing.new ≡ record { incarnation = standing.old.incarnation; tail = left_by why (map unnumbered_input inputs.now) records.now }) }
 {
     let inputs = unnumbered_inputs(alloc, inputs.as_slice())?;
     let records = records.copied(alloc)?;
-    Ok(Standing {
-        incarnation: was.incarnation,
-        tail: left_by(why, inputs, records),
-    })
+    standing.tail = left_by(why, inputs, records);
+    Ok(())
 }
 
 // The records of a rise behind the log at present.
@@ -181,44 +173,73 @@ fn risen_with(
     rise_records(alloc, scenario, site, inc, log.as_slice())
 }
 
-fn standing_by(
+// A rise.
+fn rise(
     alloc: Global,
     scenario: &Scenario,
     site: u32,
-    was: Standing,
+    standing: &mut Standing,
+    kept: bool,
+    inc: u32,
+) -> Result<(), NoMemory>
+    ensures { OnOk result (standing.new ≡ standing_by scenario.now site standing.old (act.Rise kept inc)) }
+{
+    keep(alloc, standing, kept)?;
+    let records = risen_with(alloc, scenario, site, inc, &standing.incarnation)?;
+    let now = risen(alloc, &standing.incarnation, records.as_slice())?;
+    standing.incarnation = now;
+    standing.tail = None;
+    Ok(())
+}
+
+// A rise that fails.
+fn rise_and_fall(
+    alloc: Global,
+    scenario: &Scenario,
+    site: u32,
+    standing: &mut Standing,
+    kept: bool,
+    inc: u32,
+    why: Why,
+) -> Result<(), NoMemory>
+    ensures { OnOk result (standing.new ≡ standing_by scenario.now site standing.old (act.RiseFall kept inc why)) }
+{
+    keep(alloc, standing, kept)?;
+    let records = risen_with(alloc, scenario, site, inc, &standing.incarnation)?;
+    standing.tail = left_by(why, List::new(alloc), records);
+    Ok(())
+}
+
+// One more act of the site.
+fn stand_by(
+    alloc: Global,
+    scenario: &Scenario,
+    site: u32,
+    standing: &mut Standing,
     act: &Act,
-) -> Result<Standing, NoMemory>
-    ensures { IfOk result (λ s. s ≡ standing_by scenario.now site was act.now) }
+) -> Result<(), NoMemory>
+    ensures { OnOk result (standing.new ≡ standing_by scenario.now site standing.old act.now) }
 {
     match act {
-        Act::Rise { kept, inc } => {
-            let now = kept_in(alloc, was, *kept)?;
-            let records = risen_with(alloc, scenario, site, *inc, &now)?;
-            Ok(Standing {
-                incarnation: risen(alloc, &now, records.as_slice())?,
-                tail: None,
-            })
-        }
+        Act::Rise { kept, inc } => rise(alloc, scenario, site, standing, *kept, *inc),
         Act::RiseFall { kept, inc, why } => {
-            let now = kept_in(alloc, was, *kept)?;
-            let records = risen_with(alloc, scenario, site, *inc, &now)?;
-            Ok(Standing {
-                incarnation: now,
-                tail: left_by(*why, List::new(alloc), records),
-            })
+            rise_and_fall(alloc, scenario, site, standing, *kept, *inc, *why)
         }
         Act::Step {
             input,
             records,
             outs,
             told,
-        } => with_step(alloc, was, input, records, outs, told),
+        } => {
+            let step = step_kept(alloc, input, records, outs, told)?;
+            standing.incarnation.since.push(step)
+        }
         Act::Fall {
             inputs,
             records,
             why,
-        } => with_fall(alloc, was, inputs, records, *why),
-        _ => Ok(was),
+        } => fall(alloc, standing, inputs, records, *why),
+        _ => Ok(()),
     }
 }
 
@@ -245,6 +266,18 @@ fn numbered(alloc: Global, first: u64, outs: &[Packet]) -> Result<List<Packet>, 
 }
 
 impl Prefix<'_> {
+    // Goes over the site's entries.
+    fn stand_by_all(&self, site: u32, standing: &mut Standing) -> Result<(), NoMemory>
+        ensures { OnOk result (standing.new ≡ fold (λ was e. standing_by self.now.scenario.now site was e.act) standing.old (own_entries site self.now.entries.now)) }
+    {
+        for e in self.entries {
+            if e.owner == site {
+                stand_by(self.alloc, self.scenario, site, standing, &e.act)?;
+            }
+        }
+        Ok(())
+    }
+
     // What the site's entries come to.
     fn standing_at(&self, site: u32) -> Result<Standing, NoMemory>
         ensures { IfOk result (λ s. s ≡ fold (λ was e. standing_by self.now.scenario.now site was e.act) nothing_yet (own_entries site self.now.entries.now)) }
@@ -256,11 +289,7 @@ impl Prefix<'_> {
             },
             tail: None,
         };
-        for e in self.entries {
-            if e.owner == site {
-                standing = standing_by(self.alloc, self.scenario, site, standing, &e.act)?;
-            }
-        }
+        self.stand_by_all(site, &mut standing)?;
         Ok(standing)
     }
 

@@ -13,3 +13,5 @@ pub mod HandedOut
 pub mod Wholeness
 pub mod Opened
 pub mod Regained
+pub mod Kept
+pub mod Looking

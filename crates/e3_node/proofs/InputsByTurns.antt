@@ -1,11 +1,11 @@
 -- What is told of an input of a worker.
-use Rattle.std.proofs.Common.{◌≡◌, ℕ, true, false, List, Err, refl, sym, subst, ap}
-use Rattle.std.specs.Prelude.{IsErrAnd, Ok, Result}
+use Rattle.std.proofs.Common.{◌≡◌, ◌∙◌, ℕ, true, false, List, Err, refl, sym, subst, ap}
+use Rattle.std.specs.Prelude.{IsErrAnd, Ok, OnErr, Result}
 use Rattle.e3_disk.specs.Meaning.{Meaning}
-use Rattle.e3_node.specs.Ends.{FellOver, input_fault_of, is_fall}
+use Rattle.e3_node.specs.Ends.{FellOver, is_fall}
 use Rattle.e3_node.specs.NodeStands.{IsFallen, IsIn, logged_in}
 use Rattle.e3_node.specs.NodeView.{disk_of}
-use Rattle.e3_node.specs.Turns.{EndsSo, IsStill, Meanwhile}
+use Rattle.e3_node.specs.Turns.{EndsSo, IsRefusal, IsStill, Meanwhile}
 use Rattle.e3_node.specs.declared.fault.InputFault.{InputFault}
 use Rattle.e3_node.specs.declared.fault.InputFault.TheVariants as input_fault
 use Rattle.e3_node.specs.declared.state.State.{State}
@@ -14,8 +14,6 @@ use Rattle.e3_types.specs.declared.entries.Entry.{Entry}
 use Rattle.e3_types.specs.declared.entries.Input.{Input}
 use Rattle.e3_types.specs.declared.entries.Why.{Why}
 use Rattle.e3_types.specs.declared.scenarios.Scenario.{Scenario}
-use Rattle.e3_wire.specs.declared.fault.WireFault.{WireFault}
-use Rattle.e3_wire.specs.declared.fault.WireFault.TheVariants as wire_fault
 use Rattle.e3_node.proofs.Steps.{fallen_down}
 
 module _ {D : Type 0} (meaning : Meaning D) (sc : Scenario) (before more : List Entry) (site : ℕ) (i : Input)
@@ -55,11 +53,24 @@ module _ {D : Type 0} (meaning : Meaning D) (sc : Scenario) (before more : List 
   disk_told input_fault.HistoryFull new down same = ap disk_of (same refl)
   disk_told input_fault.NoMemory new down same = ap disk_of (same refl)
 
-  -- a claim that was refused
-  pub refused : (w : WireFault) (r : Result (Unit {0}) InputFault) → IsErrAnd r (λ fault. fault ≡ input_fault_of w) →
+  -- a place that was refused
+  pub no_room : (f : InputFault) → IsRefusal f → (r : Result (Unit {0}) InputFault) → IsErrAnd r (λ fault. fault ≡ f) →
       IsStill meaning sc before more site old mid → EndsSo meaning sc before more site i old mid r
-  refused w (Ok done) is still = absurd is
-  refused wire_fault.HistoryFull (Err fault) is still =
+  no_room f refusal (Ok done) is still = absurd is
+  no_room input_fault.HistoryFull refusal (Err fault) is still =
       let P : InputFault → Type 0 = λ f. EndsSo meaning sc before more site i old mid (Err f) in subst P (sym is) still
-  refused wire_fault.NoMemory (Err fault) is still =
+  no_room input_fault.NoMemory refusal (Err fault) is still =
       let P : InputFault → Type 0 = λ f. EndsSo meaning sc before more site i old mid (Err f) in subst P (sym is) still
+  no_room input_fault.Down refusal (Err fault) is still = absurd refusal
+  no_room (input_fault.Fell why) refusal (Err fault) is still = absurd refusal
+
+-- an error that is what refused a place is one of those
+pub refuses : (f : InputFault) (r : Result (Unit {0}) InputFault) → IsRefusal f → IsErrAnd r (λ fault. fault ≡ f) → (told : InputFault) → r ≡ Err told → IsRefusal told
+refuses f (Ok done) refusal is told same = absurd is
+refuses f (Err fault) refusal is told same =
+    let one : fault ≡ told = cc in subst IsRefusal (sym is ∙ one) refusal
+
+-- what holds anyway holds with an error
+pub with_error : {X E P : Type 0} (r : Result X E) → P → OnErr r P
+with_error (Ok done) holds = tt
+with_error (Err fault) holds = holds

@@ -41,7 +41,7 @@ use Rattle.e3_site.specs.Rebuilt.{IsRebuilt}
 use Rattle.e3_site.specs.SiteView.{SiteView}
 use Rattle.e3_site.specs.StandsFor.{IsRisenWith}
 use Rattle.e3_node.specs.site_log.Bodies.{IsLogged, ReadsAs, ReadsLeft, bodies_in, joined}
-use Rattle.e3_node.specs.site_log.Ends.{IsFull, IsReason}
+use Rattle.e3_node.specs.site_log.Ends.{LacksRoom, IsReason}
 use Rattle.e3_node.proofs.site_log.Frames.{spells}
 use Rattle.e3_node.proofs.site_log.Holding.{fronts, same_go_on}
 use Rattle.e3_site.proofs.Legal.{in_order}
@@ -349,7 +349,7 @@ read_since image sc h site capacity kept old mid within read = record { bytes = 
 reason_since : (why : Why) (log records : List Record) (old mid new : Meters) → Keeps old mid → IsReason why log records mid new →
     IsReason why log records old new
 reason_since Fault log records old mid new keeps reason = failed_since old.faults mid.faults new.faults keeps.faults reason
-reason_since (Full need room) log records old mid new keeps reason = subst (λ (c : ℕ). IsFull c log records need room) keeps.capacity reason
+reason_since (Full need room) log records old mid new keeps reason = subst (λ (c : ℕ). LacksRoom c log records need room) keeps.capacity reason
 
 -- what a rise makes of a disk it makes of what that came from
 pub makes_since : {D : Type 0} (meaning : Meaning D) (sc : Scenario) (h : List Entry)

@@ -70,8 +70,8 @@ pub record IsBatch {D : Type 0} (meters : D → Meters) (on_disk : LogState D) (
   pub body : HasBody batch.short
   pub due : records_by sc history site done ≢ [] → HasRoomUnlessShort meters on_disk (log_of sc history site) batch.short (length batch.body)
 
--- A batch has these records, this body and this short log with the step of a draft: a short log is one of the log of which the
--- site tells the brief, while nothing is recorded; and the log is turned for the batch unless its frame has room.
+-- What a batch has with the step of a draft. While the batch records nothing the site tells the brief of the log, and a short
+-- log is one of that log. Where the batch has no short log yet, the frame of both has room behind the log, or there is one.
 pub record IsLonger {D : Type 0} (meters : D → Meters) (on_disk : LogState D) (batch : Batch) (s : SiteView) (draft : Draft) (longer : Lengthened) : Type 0 where
   pub records : longer.records ≡ batch.records ++ draft.plan.step.records
   pub body : longer.body ≡ batch.body ++ draft.body
@@ -81,9 +81,9 @@ pub record IsLonger {D : Type 0} (meters : D → Meters) (on_disk : LogState D) 
       HasRoomUnlessShort meters on_disk log longer.short (length longer.body)
 
 -- A batch records something and its log is not turned, and behind the log its frame has no room for what the step of a draft
--- records.
-abbrev pub IsFull : {D : Type 0} → (D → Meters) → LogState D → Batch → Draft → Type 0
-IsFull meters on_disk batch draft = (batch.records ≢ []) × (batch.short ≡ None) × (HasRoom meters on_disk (length (batch.body ++ draft.body)) → ⊥)
+-- records: so it takes no more.
+abbrev pub TakesNoMore : {D : Type 0} → (D → Meters) → LogState D → Batch → Draft → Type 0
+TakesNoMore meters on_disk batch draft = (batch.records ≢ []) × (batch.short ≡ None) × (HasRoom meters on_disk (length (batch.body ++ draft.body)) → ⊥)
 
 -- want of memory is the only refusal
 abbrev pub OnlyForMemory : {A : Type 0} → Result A InputFault → Type 0

@@ -8,17 +8,18 @@ use Rattle.e3_node.specs.Ends.{FellOver}
 use Rattle.e3_node.specs.NodeStands.{IsFallen, IsIn, NodeStands}
 use Rattle.e3_node.specs.NodeView.{NodeView, disk_of}
 use Rattle.e3_node.specs.declared.fault.InputFault.{InputFault}
-use Rattle.e3_node.specs.declared.fault.InputFault.TheVariants.{Fell}
+use Rattle.e3_node.specs.declared.fault.InputFault.TheVariants.{Fell, HistoryFull, NoMemory}
 use Rattle.e3_node.specs.declared.state.State.{State}
-use Rattle.e3_turn.specs.Passes.{IsIdle, Owns, SameOwners, seen_by}
+use Rattle.e3_turn.specs.Passes.{GrewByOthers, IsIdle, Owns, SameOwners, seen_by}
 use Rattle.e3_types.specs.declared.entries.Entry.{Entry}
 use Rattle.e3_types.specs.declared.entries.Input.{Input}
 use Rattle.e3_types.specs.declared.entries.Why.{Why}
 use Rattle.e3_types.specs.declared.scenarios.Scenario.{Scenario}
 use Rattle.e3_wire.specs.Claims.{APass}
-use Rattle.e3_wire.specs.Marks.{entries_of, last_owner, note_of, scenario_of}
+use Rattle.e3_wire.specs.Marks.{belongs, entries_of, last_owner, most_of, note_of, scenario_of, used_of}
 use Rattle.e3_wire.specs.Wires.{IsPlayed}
 use Rattle.e3_wire.specs.declared.marks.Mark.{Mark}
+use Rattle.e3_wire.specs.declared.marks.Mark.TheVariants as mark
 use Rattle.e3_world.specs.Legal.{entry_of}
 use Rattle.e3_world.specs.Packets.{is_calm, present_items}
 
@@ -61,6 +62,20 @@ pub record HasKeptPromises (lock : TableId) (site : ℕ) (p q : APass) : Type 0 
   pub turned : HasTurned lock p q
   pub promised : (note_of site (seen_by q)).places ≡ (note_of site (seen_by p)).places
   pub room : (note_of site (seen_by q)).room ≤ (note_of site (seen_by p)).room
+
+-- behind what others put, a place that was left is claimed for the site, and room for so many packets
+pub record HasClaimed (site outs : ℕ) (p q : APass) : Type 0 where
+  pub between : List Mark
+  pub grew : GrewByOthers belongs p between
+  pub played : IsPlayed between
+  pub left : most_of between ≤ used_of between → ⊥
+  pub is : seen_by q ≡ between ++ mark.Place site outs ∷ []
+
+-- want of memory, or a full history
+abbrev pub IsRefusal : InputFault → Type 0
+IsRefusal NoMemory = Unit {0}
+IsRefusal HistoryFull = Unit {0}
+IsRefusal _ = ⊥
 
 module _ {D : Type 0} (meaning : Meaning D) where
   -- A call of a node may take turns by this pass: it rests and speaks for the node's site, and the node stands for what it has

@@ -1,7 +1,7 @@
 // Several packets of a site that is up, by its worker: their steps have one frame.
 ghost use Rattle.std.specs.Prelude.{◌≡◌, ◌≤◌, ◌<◌, ◌+◌, ◌^◌, ◌++◌, ◌∷◌, [], None, true, false, ℕ, length, take, vec_capacity, IfOk, IfSome, OnOk, OnErr, List as Items};
 ghost use Rattle.e3_site.specs.StandsAlike.{IsLogInOrder, StandsAlike};
-ghost use Rattle.e3_node.specs.Batched.{AreAdded, BatchAt, HasNoMoreRoom, HasPlanned, IsBatchAt, IsFull, IsLonger, OnlyForMemory, first_of};
+ghost use Rattle.e3_node.specs.Batched.{AreAdded, BatchAt, HasNoMoreRoom, HasPlanned, IsBatchAt, IsLonger, OnlyForMemory, TakesNoMore, first_of};
 ghost use Rattle.e3_node.specs.Batches.{stepped};
 ghost use Rattle.e3_node.specs.Briefing.{BriefsAreTold};
 ghost use Rattle.e3_node.specs.Several.{AreOwned, MayEnterAll, marks_in};
@@ -97,7 +97,7 @@ fn steps_in(batch: &Batch) -> usize
 }
 
 // What a batch has with the step of this draft, for which a place is claimed; none where the frame has no room for it.
-fn longer<D: Disk>(
+fn one_more<D: Disk>(
     shared: &mut Shared,
     number: u32,
     site: &Site,
@@ -111,7 +111,7 @@ fn longer<D: Disk>(
     requires few { length draft.now.plan.step.outs < 2 ^ 32 }
     ensures longer { IfOk result (λ longer. IfSome longer (IsLonger D.meaning.meters log.now batch.now site.now draft.now)) }
     ensures claimed { IfOk result (λ longer. IfSome longer (λ _. shared.new ≡ shared.old ++ mark.Place number (length draft.now.plan.step.outs) ∷ [])) }
-    ensures full { IfOk result (λ longer. longer ≡ None → IsFull D.meaning.meters log.now batch.now draft.now × (shared.new ≡ shared.old)) }
+    ensures full { IfOk result (λ longer. longer ≡ None → TakesNoMore D.meaning.meters log.now batch.now draft.now × (shared.new ≡ shared.old)) }
     ensures kept { OnErr result (shared.new ≡ shared.old) }
     ensures refused { used_of shared.old < most_of shared.old → OnlyForMemory result }
 {
@@ -168,12 +168,12 @@ fn add_one<D: Disk>(
 {
     reserve(&mut batch.steps)?;
     let draft = planned(shared.alloc(), site, input)?;
-    let Some(more) = longer(shared, number, site, log, spare, batch, &draft)? else {
+    let Some(longer) = one_more(shared, number, site, log, spare, batch, &draft)? else {
         return Ok(false);
     };
     let step = step_of(number, input.copy(), site.apply(draft.plan));
     batch.steps.push_reserved(step);
-    lengthen(batch, more);
+    lengthen(batch, longer);
     Ok(true)
 }
 

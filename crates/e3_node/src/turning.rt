@@ -1,28 +1,31 @@
 // An input of a site that is up, by its worker.
-ghost use Rattle.std.specs.Prelude.{◌≡◌, ◌≤◌, ◌↔◌, true, false, OnOk, Err};
+ghost use Rattle.std.specs.Prelude.{◌≡◌, ◌≢◌, ◌≤◌, ◌<◌, ◌^◌, ◌↔◌, [], true, false, length, IfOk, OnOk, OnErr, Err, List as Items};
 ghost use Rattle.e3_disk.specs.Meters.{Keeps};
 ghost use Rattle.e3_laws.specs.local.Drafts.{MayTake};
+ghost use Rattle.e3_node.specs.Briefing.{HasBody, IsBriefOf};
 ghost use Rattle.e3_node.specs.Ends.{HasRoomBehind, IsOneFrame, OnLogs};
 ghost use Rattle.e3_node.specs.NodeStands.{IsIn, IsUp};
 ghost use Rattle.e3_node.specs.NodeView.{disk_of};
 ghost use Rattle.e3_node.specs.Places.{HasGivenNoneBack};
-ghost use Rattle.e3_node.specs.Turns.{EndsSo, HasKeptPromises, MayTakeTurns, history_seen, scenario_seen};
+ghost use Rattle.e3_node.specs.Turns.{EndsSo, HasClaimed, HasKeptPromises, IsRefusal, MayTakeTurns, Meanwhile, history_seen, scenario_seen};
+ghost use Rattle.e3_node.specs.declared.fault.InputFault.{InputFault as InputFaults};
 ghost use Rattle.e3_node.specs.declared.fault.InputFault.TheVariants as input_fault;
 ghost use Rattle.e3_node.specs.declared.state.State.TheVariants as state;
-ghost use Rattle.e3_node.specs.site_log.Ends.{HasRoom, IsReason, Takes, calls_for, size_of};
-ghost use Rattle.e3_turn.specs.Passes.{IsIdle, seen_by};
+ghost use Rattle.e3_node.specs.site_log.Ends.{HasRoom, HasRoomUnlessShort, IsReason, IsShortIf, Takes, calls_for, size_of};
+ghost use Rattle.e3_turn.specs.Passes.{IsIdle, SameOwners, seen_by};
 ghost use Rattle.e3_types.specs.declared.entries.Why.{Why as Whys};
 ghost use Rattle.e3_types.specs.declared.entries.Why.TheVariants.{Fault};
+ghost use Rattle.e3_types.specs.declared.records.Record.{Record as Records};
 ghost use Rattle.e3_wire.specs.Marks.{most_of, used_of};
-ghost use Rattle.e3_wire.specs.Wires.{TakesLeast};
+ghost use Rattle.e3_wire.specs.Wires.{IsPlayed, TakesLeast};
 ghost use Rattle.e3_world.specs.Items.{is_up_at};
 ghost use Rattle.e3_world.specs.Legal.{made_by};
 ghost use Rattle.e3_world.specs.Moves.{log_of};
 
 use crate::briefing::shorten;
-use crate::drafts::prepare_by_turns;
+use crate::drafts::{Draft, prepare_by_turns};
 use crate::law::logs_are_sound;
-use crate::site_log::write;
+use crate::site_log::{Short, write};
 use crate::stepping::{fall_of, room_for, step_of};
 use crate::{InputFault, State};
 use e3_disk::Disk;
@@ -39,6 +42,39 @@ pub(crate) fn must_rest(wire: &Wire, pass: &WirePass)
 {
     let _ = wire;
     let _ = pass;
+}
+
+// What the log is turned to for the frame of this draft, if it is. With that a place is claimed for the step, behind what
+// others put.
+fn make_room_by_turns<R: Wait, D: Disk>(
+    rt: &R,
+    alloc: Global,
+    wire: &Wire,
+    pass: &mut WirePass,
+    number: u32,
+    site: &Site,
+    log: &Log<D>,
+    draft: &Draft,
+) -> Result<Option<Short>, InputFault>
+    requires turns { MayTakeTurns wire.now number pass.old }
+    requires few { length draft.now.plan.step.outs < 2 ^ 32 }
+    ensures short { (log : Items Records) → IsBriefOf site.now log → IfOk result (IsShortIf site.now.site log) }
+    ensures due { (l : Items Records) → IsBriefOf site.now l → log.now.failed ≡ false → draft.now.plan.step.records ≢ [] →
+        IfOk result (λ s. HasRoomUnlessShort D.meaning.meters log.now l s (length draft.now.body)) }
+    ensures body { IfOk result HasBody }
+    ensures idle { OnOk result (IsIdle wire.now pass.new) }
+    ensures same { OnOk result (SameOwners pass.old pass.new) }
+    ensures played { OnOk result (IsPlayed (seen_by pass.new)) }
+    ensures claimed { OnOk result (HasClaimed number (length draft.now.plan.step.outs) pass.old pass.new) }
+    ensures turned { OnErr result (HasKeptPromises wire.now number pass.old pass.new) }
+    ensures none_back { OnErr result (HasGivenNoneBack number (seen_by pass.old) (seen_by pass.new)) }
+    ensures meanwhile { OnErr result (Meanwhile number (history_seen pass.old) (history_seen pass.new)) }
+    ensures refused { (fault : InputFaults) → result ≡ Err fault → IsRefusal fault }
+    ensures full { result ≡ Err input_fault.HistoryFull → most_of (seen_by pass.new) ≤ used_of (seen_by pass.new) }
+{
+    let short = shorten(alloc, site, log, draft.plan.records(), draft.body.len())?;
+    wire.claim(rt, pass, number, room_for(draft.plan.outs()))?;
+    Ok(short)
 }
 
 // A site that is up takes an input: its step is planned, a place is claimed for it, its frame is written outside of the
@@ -78,11 +114,9 @@ fn step_by_turns<R: Wait, D: Disk>(
 {
     logs_are_sound();
     let draft = prepare_by_turns(alloc, site, rose, &input, pass)?;
-    let (records, body) = (draft.plan.records(), draft.body.as_slice());
-    let short = shorten(alloc, site, log, records, draft.body.len())?;
-    let room = room_for(draft.plan.outs());
-    wire.claim(rt, pass, number, room)?;
+    let short = make_room_by_turns(rt, alloc, wire, pass, number, site, log, &draft)?;
     must_rest(wire, pass);
+    let (records, body) = (draft.plan.records(), draft.body.as_slice());
     match write(log, logged, &short, records, body) {
         Ok(()) => {
             let step = step_of(number, input, site.apply(draft.plan));

@@ -2,11 +2,12 @@
 ghost use Rattle.std.specs.Prelude.{◌≡◌, ◌++◌, IfOk, filter, fold, map};
 ghost use Rattle.std.specs.List.{flat_map, list_any};
 ghost use Rattle.e3_types.specs.Same.{same_txn};
-ghost use Rattle.e3_places.specs.Standing.{passes, is_told, is_sent, is_heard, decided_in, voted, cast_in, cast_of, is_left, again, newly, standing_by, with_cast, votes_by, claims_by, written, row_with, row_by, place_by};
+ghost use Rattle.e3_places.specs.Keeping.{bare, no_claims};
+ghost use Rattle.e3_places.specs.Standing.{passes, is_told, is_sent, is_heard, decided_in, voted, cast_in, cast_of, is_left, again, newly, votes_by, claims_by, written, row_with, row_by, place_by};
 
 use crate::doings::Doings;
 use crate::picks::Pick;
-use crate::places::{Claims, Place, Standing};
+use crate::places::{Claims, Place, Standing, bare, no_claims};
 use e3_readings::{copy_asked, is_decision};
 use e3_tables::write_of;
 use e3_types::{Answer, Dir, List, Message, Name, NoMemory, NumOp, Packet, Record, Told, Txn};
@@ -124,14 +125,21 @@ fn add_record(pick: &Pick, r: &Record, out: &mut List<Asked>) -> Result<(), NoMe
     }
 }
 
+fn add_cast_of(pick: &Pick, records: &[Record], out: &mut List<Asked>) -> Result<(), NoMemory>
+    ensures { IfOk result (λ u. out.new ≡ out.old ++ filter (passes pick.now) (cast_of records.now)) }
+{
+    for r in records {
+        add_record(pick, r, out)?;
+    }
+    Ok(())
+}
+
 /// Those that are picked of the operations of these records' votes.
 pub fn cast_on(alloc: Global, pick: &Pick, records: &[Record]) -> Result<List<Asked>, NoMemory>
     ensures { IfOk result (λ out. out ≡ filter (passes pick.now) (cast_of records.now)) }
 {
     let mut out = List::new(alloc);
-    for r in records {
-        add_record(pick, r, &mut out)?;
-    }
+    add_cast_of(pick, records, &mut out)?;
     Ok(out)
 }
 
@@ -146,6 +154,21 @@ fn add_left(records: &[Record], asked: &[Asked], out: &mut List<Asked>) -> Resul
     Ok(())
 }
 
+// Adds the operations of votes behind a step.
+fn add_votes(
+    alloc: Global,
+    pick: &Pick,
+    votes: &[Asked],
+    records: &[Record],
+    out: &mut List<Asked>,
+) -> Result<(), NoMemory>
+    ensures { IfOk result (λ u. out.new ≡ out.old ++ votes_by (passes pick.now) votes.now records.now) }
+{
+    let cast = cast_on(alloc, pick, records)?;
+    add_left(records, votes, out)?;
+    add_left(records, cast.as_slice(), out)
+}
+
 /// The operations of votes behind a step.
 pub fn votes_by(
     alloc: Global,
@@ -155,24 +178,39 @@ pub fn votes_by(
 ) -> Result<List<Asked>, NoMemory>
     ensures { IfOk result (λ out. out ≡ votes_by (passes pick.now) votes.now records.now) }
 {
-    let cast = cast_on(alloc, pick, records)?;
     let mut out = List::new(alloc);
-    add_left(records, votes, &mut out)?;
-    add_left(records, cast.as_slice(), &mut out)?;
+    add_votes(alloc, pick, votes, records, &mut out)?;
     Ok(out)
+}
+
+// Adds the claims that are picked behind a step: what may be refused borrows those that it makes.
+fn add_claims(
+    doings: &Doings<'_>,
+    pick: &Pick,
+    was: &Claims,
+    out: &mut Claims,
+) -> Result<(), NoMemory>
+    requires { out.old ≡ no_claims }
+    ensures { IfOk result (λ u. out.new ≡ claims_by (passes pick.now) was.now doings.now.new.now doings.now.records.now doings.now.events.now doings.now.outs.now) }
+{
+    add_standing(doings, was.standing.as_slice(), &mut out.standing)?;
+    add_newly(doings, pick, &mut out.standing)?;
+    add_votes(
+        doings.alloc,
+        pick,
+        was.votes.as_slice(),
+        doings.records,
+        &mut out.votes,
+    )
 }
 
 /// The claims that are picked behind a step.
 pub(crate) fn claims_by(doings: &Doings<'_>, pick: &Pick, was: &Claims) -> Result<Claims, NoMemory>
     ensures { IfOk result (λ c. c ≡ claims_by (passes pick.now) was.now doings.now.new.now doings.now.records.now doings.now.events.now doings.now.outs.now) }
 {
-    let mut standing = List::new(doings.alloc);
-    add_standing(doings, was.standing.as_slice(), &mut standing)?;
-    add_newly(doings, pick, &mut standing)?;
-    Ok(Claims {
-        standing,
-        votes: votes_by(doings.alloc, pick, was.votes.as_slice(), doings.records)?,
-    })
+    let mut out = no_claims(doings.alloc);
+    add_claims(doings, pick, was, &mut out)?;
+    Ok(out)
 }
 
 fn written(was: Answer, a: &Asked) -> Answer
@@ -242,13 +280,20 @@ pub fn row_by(
     ))
 }
 
+// A bare place becomes what stands on a name behind a step.
+fn fill(doings: &Doings<'_>, name: &Name, was: &Place, out: &mut Place) -> Result<(), NoMemory>
+    requires { out.old ≡ bare }
+    ensures { IfOk result (λ u. out.new ≡ place_by name.now was.now doings.now.new.now doings.now.records.now doings.now.events.now doings.now.outs.now) }
+{
+    out.row = row_by(doings.alloc, name, was, doings.records)?;
+    add_claims(doings, &Pick::On(name.copy()), &was.claims, &mut out.claims)
+}
+
 /// What stands on a name behind a step.
 pub(crate) fn place_by(doings: &Doings<'_>, name: &Name, was: &Place) -> Result<Place, NoMemory>
     ensures { IfOk result (λ p. p ≡ place_by name.now was.now doings.now.new.now doings.now.records.now doings.now.events.now doings.now.outs.now) }
 {
-    let pick = Pick::On(name.copy());
-    Ok(Place {
-        claims: claims_by(doings, &pick, &was.claims)?,
-        row: row_by(doings.alloc, name, was, doings.records)?,
-    })
+    let mut out = bare(doings.alloc);
+    fill(doings, name, was, &mut out)?;
+    Ok(out)
 }

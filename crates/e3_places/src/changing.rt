@@ -50,14 +50,31 @@ pub(crate) fn place_behind(doings: &Doings<'_>, name: &Name) -> Result<Place, No
     place_by(doings, name, place_or(&places.names, name, &none))
 }
 
-fn name_change(doings: &Doings<'_>, name: &Name) -> Result<NameChange, NoMemory>
-    ensures { IfOk result (λ c. c ≡ name_change doings.now.places.now.names.entries doings.now.new.now doings.now.records.now doings.now.events.now doings.now.outs.now name.now) }
+fn add_name_change(
+    doings: &Doings<'_>,
+    name: &Name,
+    out: &mut List<NameChange>,
+) -> Result<(), NoMemory>
+    ensures { IfOk result (λ u. out.new ≡ out.old ++ name_change doings.now.places.now.names.entries doings.now.new.now doings.now.records.now doings.now.events.now doings.now.outs.now name.now ∷ []) }
 {
     let place = place_behind(doings, name)?;
-    Ok(NameChange {
+    out.push(NameChange {
         name: name.copy(),
         place,
     })
+}
+
+fn add_name_changes(
+    doings: &Doings<'_>,
+    names: &[Name],
+    out: &mut List<NameChange>,
+) -> Result<(), NoMemory>
+    ensures { IfOk result (λ u. out.new ≡ out.old ++ map (name_change doings.now.places.now.names.entries doings.now.new.now doings.now.records.now doings.now.events.now doings.now.outs.now) names.now) }
+{
+    for name in names {
+        add_name_change(doings, name, out)?;
+    }
+    Ok(())
 }
 
 fn name_changes(doings: &Doings<'_>) -> Result<List<NameChange>, NoMemory>
@@ -65,9 +82,7 @@ fn name_changes(doings: &Doings<'_>) -> Result<List<NameChange>, NoMemory>
 {
     let touched = names_touched(doings)?;
     let mut out = List::new(doings.alloc);
-    for name in touched.as_slice() {
-        out.push(name_change(doings, name)?)?;
-    }
+    add_name_changes(doings, touched.as_slice(), &mut out)?;
     Ok(out)
 }
 
@@ -82,11 +97,28 @@ fn claims_behind(doings: &Doings<'_>, key: TxnId) -> Result<Claims, NoMemory>
     }
 }
 
-fn txn_change(doings: &Doings<'_>, key: TxnId) -> Result<TxnChange, NoMemory>
-    ensures { IfOk result (λ c. c ≡ txn_change doings.now.places.now.txns.entries doings.now.new.now doings.now.records.now doings.now.events.now doings.now.outs.now key) }
+fn add_txn_change(
+    doings: &Doings<'_>,
+    key: TxnId,
+    out: &mut List<TxnChange>,
+) -> Result<(), NoMemory>
+    ensures { IfOk result (λ u. out.new ≡ out.old ++ txn_change doings.now.places.now.txns.entries doings.now.new.now doings.now.records.now doings.now.events.now doings.now.outs.now key ∷ []) }
 {
     let claims = claims_behind(doings, key)?;
-    Ok(TxnChange { key, claims })
+    out.push(TxnChange { key, claims })
+}
+
+fn add_txn_changes(
+    doings: &Doings<'_>,
+    keys: &[TxnId],
+    out: &mut List<TxnChange>,
+) -> Result<(), NoMemory>
+    ensures { IfOk result (λ u. out.new ≡ out.old ++ map (txn_change doings.now.places.now.txns.entries doings.now.new.now doings.now.records.now doings.now.events.now doings.now.outs.now) keys.now) }
+{
+    for key in keys {
+        add_txn_change(doings, *key, out)?;
+    }
+    Ok(())
 }
 
 fn txn_changes(doings: &Doings<'_>) -> Result<List<TxnChange>, NoMemory>
@@ -94,9 +126,7 @@ fn txn_changes(doings: &Doings<'_>) -> Result<List<TxnChange>, NoMemory>
 {
     let touched = keys_touched(doings)?;
     let mut out = List::new(doings.alloc);
-    for key in touched.as_slice() {
-        out.push(txn_change(doings, *key)?)?;
-    }
+    add_txn_changes(doings, touched.as_slice(), &mut out)?;
     Ok(out)
 }
 

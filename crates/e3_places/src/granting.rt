@@ -1,5 +1,6 @@
 // Which requests a decision grants.
-ghost use Rattle.std.specs.Prelude.{◌≡◌, ◌++◌, [], ℕ, true, IfOk, take};
+ghost use Rattle.std.specs.Prelude.{◌≡◌, ◌++◌, [], ℕ, true, IfOk, filter, take};
+ghost use Rattle.std.specs.List.{flat_map};
 ghost use Rattle.e3_world.specs.declared.lives.At.{At};
 ghost use Rattle.e3_world.specs.declared.lives.Life.{Life};
 ghost use Rattle.e3_world.specs.Lives.{life_by};
@@ -83,16 +84,30 @@ fn in_order(alloc: Global, names: &[Name]) -> Result<List<Name>, NoMemory>
     Ok(out)
 }
 
+fn add_given(doings: &Doings<'_>, names: &[Name], out: &mut List<Asked>) -> Result<(), NoMemory>
+    ensures { IfOk result (λ u. out.new ≡ out.old ++ flat_map (given_behind doings.now.places.now.names.entries doings.now.new.now doings.now.records.now doings.now.events.now doings.now.outs.now) names.now) }
+{
+    for name in names {
+        let asked = given_behind(doings, name)?;
+        add_asked(asked.as_slice(), out)?;
+    }
+    Ok(())
+}
+
+// The names on which requests can be granted, in their order.
+fn names_stirred(doings: &Doings<'_>, restless: &[Name]) -> Result<List<Name>, NoMemory>
+    ensures { IfOk result (λ out. out ≡ in_order (stirred doings.now.places.now restless.now doings.now.new.now doings.now.records.now doings.now.events.now doings.now.outs.now)) }
+{
+    let all = stirred(doings, restless)?;
+    in_order(doings.alloc, all.as_slice())
+}
+
 fn granted_by(doings: &Doings<'_>, restless: &[Name]) -> Result<List<Asked>, NoMemory>
     ensures { IfOk result (λ out. out ≡ granted_by doings.now.places.now restless.now doings.now.new.now doings.now.records.now doings.now.events.now doings.now.outs.now) }
 {
-    let all = stirred(doings, restless)?;
-    let names = in_order(doings.alloc, all.as_slice())?;
+    let names = names_stirred(doings, restless)?;
     let mut out = List::new(doings.alloc);
-    for name in names.as_slice() {
-        let asked = given_behind(doings, name)?;
-        add_asked(asked.as_slice(), &mut out)?;
-    }
+    add_given(doings, names.as_slice(), &mut out)?;
     Ok(out)
 }
 
@@ -123,16 +138,23 @@ pub fn grants_after(
     granted_by(&doings, restless)
 }
 
+fn add_restless(doings: &Doings<'_>, names: &[Name], out: &mut List<Name>) -> Result<(), NoMemory>
+    ensures { IfOk result (λ u. out.new ≡ out.old ++ filter (is_restless doings.now.places.now.names.entries doings.now.new.now doings.now.records.now doings.now.events.now doings.now.outs.now) names.now) }
+{
+    for name in names {
+        if is_restless(doings, name)? {
+            out.push(name.copy())?;
+        }
+    }
+    Ok(())
+}
+
 fn restless_by(doings: &Doings<'_>, restless: &[Name]) -> Result<List<Name>, NoMemory>
     ensures { IfOk result (λ out. out ≡ restless_by doings.now.places.now restless.now doings.now.new.now doings.now.records.now doings.now.events.now doings.now.outs.now) }
 {
     let all = stirred(doings, restless)?;
     let mut out = List::new(doings.alloc);
-    for name in all.as_slice() {
-        if is_restless(doings, name)? {
-            out.push(name.copy())?;
-        }
-    }
+    add_restless(doings, all.as_slice(), &mut out)?;
     Ok(out)
 }
 

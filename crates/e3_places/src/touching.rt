@@ -207,16 +207,48 @@ fn add_names(asked: &[Asked], out: &mut List<Name>) -> Result<(), NoMemory>
     Ok(())
 }
 
+fn add_names_added(doings: &Doings<'_>, out: &mut List<Name>) -> Result<(), NoMemory>
+    ensures { IfOk result (λ u. out.new ≡ out.old ++ map name_of (added doings.now.new.now doings.now.records.now)) }
+{
+    let asked = added(doings)?;
+    add_names(asked.as_slice(), out)
+}
+
+fn add_names_reached(doings: &Doings<'_>, out: &mut List<Name>) -> Result<(), NoMemory>
+    ensures { IfOk result (λ u. out.new ≡ out.old ++ flat_map (λ t. moved_names doings.now.records.now doings.now.events.now doings.now.outs.now (claims_at doings.now.places.now.txns.entries (txn_id t))) (reached doings.now.records.now doings.now.events.now doings.now.outs.now)) }
+{
+    let txns = reached(doings)?;
+    add_names_of_all(doings, txns.as_slice(), out)
+}
+
 /// The names that a step touches, some of them more than once.
 pub(crate) fn names_touched(doings: &Doings<'_>) -> Result<List<Name>, NoMemory>
     ensures { IfOk result (λ out. out ≡ names_touched doings.now.places.now.txns.entries doings.now.new.now doings.now.records.now doings.now.events.now doings.now.outs.now) }
 {
     let mut out = List::new(doings.alloc);
-    let asked = added(doings)?;
-    add_names(asked.as_slice(), &mut out)?;
-    let txns = reached(doings)?;
-    add_names_of_all(doings, txns.as_slice(), &mut out)?;
+    add_names_added(doings, &mut out)?;
+    add_names_reached(doings, &mut out)?;
     Ok(out)
+}
+
+fn add_keys_added(doings: &Doings<'_>, out: &mut List<TxnId>) -> Result<(), NoMemory>
+    ensures { IfOk result (λ u. out.new ≡ out.old ++ map (λ a. txn_id a.txn) (added doings.now.new.now doings.now.records.now)) }
+{
+    let asked = added(doings)?;
+    for a in asked.as_slice() {
+        out.push(txn_id(&a.txn))?;
+    }
+    Ok(())
+}
+
+fn add_keys_reached(doings: &Doings<'_>, out: &mut List<TxnId>) -> Result<(), NoMemory>
+    ensures { IfOk result (λ u. out.new ≡ out.old ++ map txn_id (reached doings.now.records.now doings.now.events.now doings.now.outs.now)) }
+{
+    let txns = reached(doings)?;
+    for t in txns.as_slice() {
+        out.push(txn_id(t))?;
+    }
+    Ok(())
 }
 
 /// The transactions that a step touches, as keys, some of them more than once.
@@ -224,13 +256,7 @@ pub(crate) fn keys_touched(doings: &Doings<'_>) -> Result<List<TxnId>, NoMemory>
     ensures { IfOk result (λ out. out ≡ keys_touched doings.now.new.now doings.now.records.now doings.now.events.now doings.now.outs.now) }
 {
     let mut out = List::new(doings.alloc);
-    let asked = added(doings)?;
-    for a in asked.as_slice() {
-        out.push(txn_id(&a.txn))?;
-    }
-    let txns = reached(doings)?;
-    for t in txns.as_slice() {
-        out.push(txn_id(t))?;
-    }
+    add_keys_added(doings, &mut out)?;
+    add_keys_reached(doings, &mut out)?;
     Ok(out)
 }

@@ -1,7 +1,4 @@
-pub mod Maps
-pub mod KeyOrder
 pub mod Naming
-pub mod Ordering
 pub mod Tabling
 pub mod UpSets
 pub mod OneSiteMore

@@ -19,9 +19,9 @@ use Rattle.e3_world.specs.declared.names.Binding.{Binding}
 use Rattle.e3_world.specs.declared.names.Bound.{Bound}
 use Rattle.e3_world.specs.Items.{begin_names, binds, binding_by, last_bound, txn_of}
 use Rattle.e3_world.specs.Packets.{step_items}
-use Rattle.e3_report.specs.Keys.{at_key, at_number}
+use Rattle.e3_order.specs.Keys.{at_key, at_number}
 use Rattle.e3_report.specs.Names.{Naming, no_naming, meant, begins, and_bound, and_begin, naming_act, naming_by}
-use Rattle.e3_report.proofs.Maps.{key_inserted, number_inserted}
+use Rattle.e3_order.proofs.Maps.{key_inserted, number_inserted}
 
 -- before the first entry of a history no name is bound
 abbrev no_binding : Binding

@@ -16,9 +16,9 @@ use Rattle.e3_types.specs.declared.transactions.Txn.{Txn}
 use Rattle.e3_types.specs.Same.{same_numbers, same_txn}
 use Rattle.e3_types.proofs.SameSites.{same_numbers_eq}
 use Rattle.e3_world.specs.Logs.{set_row, table_by, table_of, ops_of_vote, voted_ops}
-use Rattle.e3_report.specs.Keys.{numbers_of, at_key}
+use Rattle.e3_order.specs.Keys.{numbers_of, at_key}
 use Rattle.e3_report.specs.Tables.{rows_of, ops_at, ops_in, ops_by, entered}
-use Rattle.e3_report.proofs.Maps.{equal_at, key_turned, txn_same}
+use Rattle.e3_order.proofs.Maps.{equal_at, key_turned, txn_same}
 
 row_inserted_at : (k v : List ℕ) (e : List ℕ × List ℕ) (es : List (List ℕ × List ℕ)) (o : Ordering) → slice_cmp nat_cmp k e.0 ≡ o →
     rows_of (insert_entry (slice_cmp nat_cmp) es k v) ≡ set_row (record { name = k; val = v }) (rows_of es) →

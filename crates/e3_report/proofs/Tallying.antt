@@ -10,12 +10,12 @@ use Rattle.e3_types.specs.declared.scenarios.Scenario.{Scenario}
 use Rattle.e3_types.specs.declared.transactions.Dir.TheVariants.{Abort, Commit}
 use Rattle.e3_types.specs.Same.{same_txn}
 use Rattle.e3_world.specs.Moves.{Placed}
-use Rattle.e3_report.specs.Keys.{has_txn, with_txn}
-use Rattle.e3_report.specs.Orders.{decided, with_decision}
+use Rattle.e3_order.specs.Keys.{has_txn, with_txn}
+use Rattle.e3_order.specs.Orders.{decided, with_decision}
 use Rattle.e3_report.specs.Summary.{each_once, aborted_by, begun_by, events_of, committed, aborted, begun, summary_with, summary_over, summary_of}
 use Rattle.e3_report.specs.Tallies.{with_txns}
 use Rattle.e3_report.specs.Walk.{walk_of}
-use Rattle.e3_report.proofs.Maps.{txn_inserted, txn_counted}
+use Rattle.e3_order.proofs.Maps.{txn_inserted, txn_counted}
 use Rattle.e3_report.proofs.Walking.{walk_placed}
 
 -- first some, and then others

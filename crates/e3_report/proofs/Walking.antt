@@ -19,10 +19,10 @@ use Rattle.e3_world.specs.Moves.{Rose, Move, Past, Tail, Placed, own_entries, mo
 use Rattle.e3_world.proofs.Pushes.{past_push}
 use Rattle.e3_world.proofs.Readings.{own_same, own_other}
 use Rattle.e3_world.proofs.Trails.{trail_moves}
-use Rattle.e3_report.specs.Keys.{has_number}
+use Rattle.e3_order.specs.Keys.{has_number}
 use Rattle.e3_readings.specs.Places.{placed_at}
 use Rattle.e3_report.specs.Walk.{Walked, no_walk, tail_in, log_in, rise_in, kept_part, doubtful, with_born, and_records, and_kept, walk_act, walk_of}
-use Rattle.e3_report.proofs.Maps.{number_inserted, number_added}
+use Rattle.e3_order.proofs.Maps.{number_inserted, number_added}
 
 self_same : (o : ℕ) → (o == o) ≡ true
 self_same o = eq-eqb o o refl

@@ -1,6 +1,4 @@
-pub mod Keys
 pub mod Names
-pub mod Orders
 pub mod Ups
 pub mod Skips
 pub mod Steps

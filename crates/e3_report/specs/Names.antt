@@ -14,7 +14,7 @@ use Rattle.e3_types.specs.declared.transactions.Txn.{Txn}
 use Rattle.e3_world.specs.declared.names.Bound.{Bound}
 use Rattle.e3_world.specs.Items.{begin_names, binds}
 use Rattle.e3_world.specs.Packets.{step_items}
-use Rattle.e3_report.specs.Keys.{at_key, at_number}
+use Rattle.e3_order.specs.Keys.{at_key, at_number}
 
 -- the number of the step that the entries are in, how many of its begins each site took, and the transactions of the names
 pub record Naming : Type 0 where

@@ -10,7 +10,7 @@ use Rattle.e3_types.specs.declared.transactions.NumOp.{NumOp}
 use Rattle.e3_types.specs.declared.transactions.Row.{Row}
 use Rattle.e3_types.specs.declared.transactions.Txn.{Txn}
 use Rattle.e3_world.specs.Logs.{install_op}
-use Rattle.e3_report.specs.Keys.{numbers_of, at_key}
+use Rattle.e3_order.specs.Keys.{numbers_of, at_key}
 
 -- the rows of a map from names to values
 abbrev pub rows_of : List (List ℕ × List ℕ) → List Row

@@ -2,7 +2,7 @@
 use Rattle.std.specs.Prelude.{◌==◌, if◌then◌else◌, ℕ, Bool, List}
 use Rattle.e3_types.specs.declared.entries.Entry.{Entry}
 use Rattle.e3_world.specs.Progress.{up_behind}
-use Rattle.e3_report.specs.Keys.{has_number}
+use Rattle.e3_order.specs.Keys.{has_number}
 
 -- the site is one of these, which are up
 abbrev pub up_in : List ℕ → ℕ → Bool

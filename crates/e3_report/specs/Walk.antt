@@ -16,7 +16,7 @@ use Rattle.e3_readings.specs.Places.{placed_at}
 use Rattle.e3_world.specs.Moves.{Placed, own_entries, birth}
 use Rattle.e3_world.specs.Packets.{all_sites}
 use Rattle.e3_report.specs.lines.Texts.{line_end}
-use Rattle.e3_report.specs.Keys.{at_number, has_number}
+use Rattle.e3_order.specs.Keys.{at_number, has_number}
 use Rattle.e3_report.specs.Report.{present_inc, site_heading, log_lines, order_lines}
 use Rattle.e3_report.specs.Steps.{start_lines, steps_after}
 

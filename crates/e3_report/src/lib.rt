@@ -3,8 +3,6 @@
 #![tactic(auto)]
 
 mod counts;
-mod decisions;
-mod keys;
 mod known;
 pub mod lines;
 mod logs;

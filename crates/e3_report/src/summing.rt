@@ -1,12 +1,11 @@
 // The summary of a drill.
 ghost use Rattle.std.specs.Prelude.{◌≡◌, ◌++◌, ◌+◌, ◌-◌, IfOk, OnOk, codes};
-ghost use Rattle.e3_world.specs.Moves.{all_records, trail_of};
 ghost use Rattle.e3_report.specs.Summary.{is_cut, is_fall, is_rise, is_kind, count_of, committed, aborted, begun, count_line, summary_with, summary_of};
 
 use crate::lines::{push_labelled, push_line, push_line_end, push_text};
 use crate::logs::walk_of;
-use crate::orders::commit_order;
 use crate::tallies::{aborted, begun};
+use e3_order::commit_order;
 use e3_readings::SiteRecord;
 use e3_types::{Act, Entry, List, NoMemory, Scenario};
 use e3_world::History;

@@ -7,7 +7,7 @@ ghost use Rattle.e3_world.specs.Logs.{set_row, install_op, table_of};
 ghost use Rattle.e3_world.specs.Moves.{rows_at};
 ghost use Rattle.e3_report.specs.Tables.{ops_at, ops_in, ops_with, ops_by, entered};
 
-use crate::keys::TxnKey;
+use e3_order::TxnKey;
 use e3_readings::table_of as plain_table_of;
 use e3_tables::write_of;
 use e3_types::{Dir, KeyRow, List, Name, NoMemory, NumOp, Record, Row, Txn, Val};

@@ -4,8 +4,7 @@ ghost use Rattle.std.specs.List.{flat_map};
 ghost use Rattle.e3_report.specs.Summary.{aborted, begun, begun_by, events_of};
 ghost use Rattle.e3_report.specs.Tallies.{with_txns};
 
-use crate::decisions::decided;
-use crate::keys::TxnSet;
+use e3_order::{TxnSet, decided};
 use e3_readings::SiteRecord;
 use e3_types::{Act, Dir, Entry, NoMemory, Told};
 use std::alloc::Global;

@@ -6,7 +6,7 @@ use e3_types::{Act, Entry, NoMemory};
 use std::collections::BTreeSet;
 
 /// One more entry: a rise adds its site, and what takes a site down takes it away.
-#[tactic(auto, using(crate::proofs::Maps::number_query))]
+#[tactic(auto, using(e3_order::proofs::Maps::number_query))]
 pub(crate) fn enter_up(ups: &mut BTreeSet<u32>, entry: &Entry) -> Result<(), NoMemory>
     ensures { OnOk result ((site : ℕ) → up_in ups.new.keys site ≡ up_with site entry.now (up_in ups.old.keys site)) }
 {

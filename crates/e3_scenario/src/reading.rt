@@ -1,8 +1,12 @@
 // From bytes to a scenario.
-ghost use Rattle.std.specs.Prelude.{◌≡◌, ◌≤◌, ◌⊎◌, IfOk, IfErr, Ok, Err, length, map};
+ghost use Rattle.std.specs.Prelude.{◌≡◌, ◌≤◌, ◌⊎◌, [], IfOk, IfErr, Ok, Err, length, map, not, if◌then◌else◌};
 ghost use Rattle.toml.specs.View.{view, table_view};
-ghost use Rattle.e3_world.specs.Given.{IsGiven};
-ghost use Rattle.e3_scenario.specs.Scenarios.{or_range, repeat_with, numbers_in, base_in, steps_in, fields_in, scenario_in, scenario_of};
+ghost use Rattle.e3_world.specs.Given.{IsGiven, rows_differ};
+ghost use Rattle.e3_scenario.specs.declared.faults.Field.TheVariants as field;
+ghost use Rattle.e3_scenario.specs.declared.faults.ScenarioFault.TheVariants as fault;
+ghost use Rattle.e3_scenario.specs.Documents.{steps_fit};
+ghost use Rattle.e3_scenario.specs.Scenarios.{or_range, repeat_with, numbers_in, base_in, no_items_yet, steps_in, fields_in, scenario_in, scenario_of};
+ghost use Rattle.e3_scenario.specs.Steps.{and_read, steps_read};
 
 use crate::distinct::rows_differ;
 use crate::documents::{
@@ -11,7 +15,7 @@ use crate::documents::{
 use crate::faults::{Field, ScenarioFault};
 use crate::so_far::SoFar;
 use crate::steps::{Read, steps};
-use e3_types::{KeyRow, List, NoMemory, Scenario};
+use e3_types::{Item, KeyRow, List, NoMemory, Scenario, SiteSet};
 use e3_world::sites_to;
 use std::alloc::Global;
 use toml::{Table, Value};
@@ -75,32 +79,29 @@ fn base(alloc: Global, table: &Table) -> Result<Read<Scenario>, NoMemory>
     Ok(numbers(alloc, table, weights, rows))
 }
 
-// The scenario with its steps.
-fn with_steps(alloc: Global, values: &[Value], base: Scenario) -> Result<Read<Scenario>, NoMemory>
-    requires few_sites { length base.weights ≤ 16 }
-    requires few_steps { length values.now ≤ 10000 }
-    ensures { IfOk result (λ read. read ≡ steps_in (map view values.now) base) }
+// The steps that these values spell, where nothing stands before them.
+fn all_steps(
+    alloc: Global,
+    all: SiteSet,
+    values: &[Value],
+) -> Result<Read<List<List<Item>>>, NoMemory>
+    requires { length values.now ≤ 10000 }
+    ensures { IfOk result (λ read. read ≡ steps_read all 1 (no_items_yet all) [] (map view values.now)) }
 {
-    let mut scenario = base;
-    let all = sites_to(scenario.weights.len() as u32);
     let mut so_far = SoFar::nothing(alloc, all)?;
-    match steps(alloc, all, &mut so_far, values)? {
-        Err(fault) => Ok(Err(fault)),
-        Ok(steps) => {
-            scenario.steps = steps;
-            Ok(Ok(scenario))
-        }
-    }
+    steps(alloc, all, &mut so_far, values)
 }
 
-fn fields(alloc: Global, table: &Table) -> Result<Read<Scenario>, NoMemory>
-    ensures { IfOk result (λ read. read ≡ fields_in (table_view table.now)) }
+// The steps of a scenario that is read but for them, or the first fault of its steps and rows.
+fn steps_behind(
+    alloc: Global,
+    values: &[Value],
+    base: &Scenario,
+) -> Result<Read<List<List<Item>>>, NoMemory>
+    requires { length base.now.weights ≤ 16 }
+    ensures { IfOk result (λ read. and_read read (λ steps. Ok (record base.now { steps = steps })) ≡ (if not (steps_fit (map view values.now)) then Err (fault.Range field.Steps)
+        else if not (rows_differ base.now.rows) then Err fault.RowTwice else steps_in (map view values.now) base.now)) }
 {
-    let base = match base(alloc, table)? {
-        Err(fault) => return Ok(Err(fault)),
-        Ok(base) => base,
-    };
-    let values = values_at(table, "steps");
     if !steps_fit(values) {
         return Ok(Err(ScenarioFault::Range {
             field: Field::Steps,
@@ -109,7 +110,23 @@ fn fields(alloc: Global, table: &Table) -> Result<Read<Scenario>, NoMemory>
     if !rows_differ(alloc, base.rows.as_slice())? {
         return Ok(Err(ScenarioFault::RowTwice));
     }
-    with_steps(alloc, values, base)
+    all_steps(alloc, sites_to(base.weights.len() as u32), values)
+}
+
+fn fields(alloc: Global, table: &Table) -> Result<Read<Scenario>, NoMemory>
+    ensures { IfOk result (λ read. read ≡ fields_in (table_view table.now)) }
+{
+    let mut scenario = match base(alloc, table)? {
+        Err(fault) => return Ok(Err(fault)),
+        Ok(base) => base,
+    };
+    match steps_behind(alloc, values_at(table, "steps"), &scenario)? {
+        Err(fault) => Ok(Err(fault)),
+        Ok(steps) => {
+            scenario.steps = steps;
+            Ok(Ok(scenario))
+        }
+    }
 }
 
 fn table_scenario(alloc: Global, table: &Table) -> Result<Read<Scenario>, NoMemory>

@@ -1,5 +1,5 @@
 -- A site made no more steps since it rose than its history has entries; while it is up, fewer, since its rise is one of these.
-use Rattle.std.specs.Prelude.{◌≡◌, ◌==◌, ◌≤◌, ◌<◌, ◌+◌, ◌++◌, ◌∷◌, [], ℕ, suc, Bool, true, false, List, Option, Some, None, length, fold, filter}
+use Rattle.std.specs.Prelude.{◌≡◌, ◌==◌, ◌≤◌, ◌<◌, ◌+◌, ◌++◌, ◌∷◌, [], ℕ, suc, Bool, true, false, List, Option, Some, None, length, fold}
 use Rattle.std.proofs.Common.{arith, ap, refl, subst, sym, ◌∙◌}
 use Rattle.std.proofs.lemmas.Bool.{true≢false}
 use Rattle.std.proofs.lemmas.Grind.{common_steps}
@@ -12,7 +12,7 @@ use Rattle.e3_types.specs.declared.scenarios.Scenario.{Scenario}
 use Rattle.e3_world.specs.declared.lives.Incarnation.{Incarnation}
 use Rattle.e3_world.specs.Items.{is_up_at}
 use Rattle.e3_world.specs.Lives.{incarnation_by, incarnation_of}
-use Rattle.e3_world.specs.Moves.{Move, Past, Rose, Tail, kept_moves, moves_of, moves_of_act, own_entries, past_by}
+use Rattle.e3_world.specs.Moves.{Move, Past, Rose, Tail, kept_moves, moves_of, own_entries, past_by}
 use Rattle.e3_world.specs.Progress.{up_behind}
 
 -- so many steps since the rise

@@ -1,7 +1,8 @@
 // The brief of a log.
-ghost use Rattle.std.specs.Prelude.{◌≡◌, ◌++◌, IfOk};
+ghost use Rattle.std.specs.Prelude.{◌≡◌, ◌++◌, [], IfOk};
 ghost use Rattle.std.specs.List.{flat_map};
 ghost use Rattle.e3_world.specs.Brief.{born_by, born_in, brief, inc_in, noted, txns_of};
+ghost use Rattle.e3_world.specs.Logs.{table_of};
 
 use crate::notes::add_noted;
 use e3_readings::{add_logged, in_order, logged_inc, table_of};
@@ -17,21 +18,20 @@ fn add_born(
 ) -> Result<(), NoMemory>
     ensures { IfOk result (λ u. out.new ≡ out.old ++ born_by rows.now r.now) }
 {
-    if let Record::Birth {
-        format,
-        site,
-        weights,
-        ..
-    } = r
-    {
-        out.push(Record::Birth {
+    match r {
+        Record::Birth {
+            format,
+            site,
+            weights,
+            ..
+        } => out.push(Record::Birth {
             format: *format,
             site: *site,
             weights: weights.copied(alloc)?,
             rows: rows.copied(alloc)?,
-        })?;
+        }),
+        _ => Ok(()),
     }
-    Ok(())
 }
 
 fn add_births(
@@ -52,9 +52,10 @@ fn add_inc(inc: u32, out: &mut List<Record>) -> Result<(), NoMemory>
     ensures { IfOk result (λ u. out.new ≡ out.old ++ inc_in inc) }
 {
     if inc > 0 {
-        out.push(Record::Inc { inc })?;
+        out.push(Record::Inc { inc })
+    } else {
+        Ok(())
     }
-    Ok(())
 }
 
 // The transactions with a record, ascending.
@@ -80,17 +81,38 @@ fn add_blocks(
     Ok(())
 }
 
+// Adds the births, with the rows of the table.
+fn add_first(alloc: Global, records: &[Record], out: &mut List<Record>) -> Result<(), NoMemory>
+    ensures { IfOk result (λ u. out.new ≡ out.old ++ born_in (table_of records.now) records.now) }
+{
+    let rows = table_of(alloc, records)?;
+    add_births(alloc, &rows, records, out)
+}
+
+// Adds what is noted of each transaction.
+fn add_all_noted(alloc: Global, records: &[Record], out: &mut List<Record>) -> Result<(), NoMemory>
+    ensures { IfOk result (λ u. out.new ≡ out.old ++ flat_map (noted records.now) (txns_of records.now)) }
+{
+    let txns = txns_of(alloc, records)?;
+    add_blocks(alloc, txns.as_slice(), records, out)
+}
+
+fn add_brief(alloc: Global, records: &[Record], out: &mut List<Record>) -> Result<(), NoMemory>
+    requires { out.old ≡ [] }
+    ensures { IfOk result (λ u. out.new ≡ brief records.now) }
+{
+    add_first(alloc, records, out)?;
+    add_inc(logged_inc(records), out)?;
+    add_all_noted(alloc, records, out)
+}
+
 /// The brief of a log: its birth with the rows of its table, its last incarnation, and of each transaction, these ascending,
 /// its vote with the operations that are open, its last attempt, its last join and its decision. Each transaction is read off
 /// all records, so the time grows with the product of both. Want of memory is the only error.
 pub fn brief(alloc: Global, records: &[Record]) -> Result<List<Record>, NoMemory>
     ensures { IfOk result (λ out. out ≡ brief records.now) }
 {
-    let rows = table_of(alloc, records)?;
-    let txns = txns_of(alloc, records)?;
     let mut out = List::new(alloc);
-    add_births(alloc, &rows, records, &mut out)?;
-    add_inc(logged_inc(records), &mut out)?;
-    add_blocks(alloc, txns.as_slice(), records, &mut out)?;
+    add_brief(alloc, records, &mut out)?;
     Ok(out)
 }

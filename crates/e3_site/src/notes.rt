@@ -25,9 +25,10 @@ fn add_vote(t: &Txn, voted: bool, ops: List<NumOp>, out: &mut List<Record>) -> R
     ensures { IfOk result (λ u. out.new ≡ out.old ++ vote_in t.now voted ops) }
 {
     if voted {
-        out.push(Record::Vote { txn: *t, ops })?;
+        out.push(Record::Vote { txn: *t, ops })
+    } else {
+        Ok(())
     }
-    Ok(())
 }
 
 // The attempt, behind the join that it has its number of.
@@ -61,9 +62,10 @@ fn add_join(t: &Txn, attempt: u32, elected: u32, out: &mut List<Record>) -> Resu
         out.push(Record::Join {
             txn: *t,
             n: elected,
-        })?;
+        })
+    } else {
+        Ok(())
     }
-    Ok(())
 }
 
 fn add_decision(t: &Txn, decided: Option<Dir>, out: &mut List<Record>) -> Result<(), NoMemory>

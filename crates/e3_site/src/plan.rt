@@ -53,16 +53,17 @@ fn fitted<T: Drop>(items: List<T>) -> List<T>
     List::from_vec(items)
 }
 
-// The step as a site keeps it.
-fn kept(alloc: Global, input: &Input, made: Made) -> Result<SiteStep, NoMemory>
-    ensures { IfOk result (λ step. step ≡ step_kept input.now made) }
+// The step as a site keeps it, with its packets without numbers.
+fn kept(input: &Input, made: Made, outs: List<Packet>) -> SiteStep
+    requires { outs ≡ map unnumbered made.outs }
+    ensures { result ≡ step_kept input.now made }
 {
-    Ok(SiteStep {
+    SiteStep {
         input: unnumbered_input(input),
-        outs: unnumbered_outs(alloc, made.outs.as_slice())?,
+        outs,
         records: fitted(made.records),
         told: fitted(made.told),
-    })
+    }
 }
 
 impl Plan {
@@ -77,7 +78,8 @@ impl Plan {
         ensures kept { IfOk result (λ plan. plan.step ≡ step_kept input.now made) }
         ensures of_tables { IfOk result (λ plan. IsMadeOf tables.now plan.step plan.behind) }
     {
-        let step = kept(alloc, input, made)?;
+        let outs = unnumbered_outs(alloc, made.outs.as_slice())?;
+        let step = kept(input, made, outs);
         let made_of_them = behind(alloc, tables, &step)?;
         Ok(Plan {
             alloc,

@@ -12,6 +12,7 @@ ghost use Rattle.e3_site.specs.past.Standing.{TablesStand};
 ghost use Rattle.e3_places.specs.Keeping.{at_name};
 ghost use Rattle.e3_site.specs.TableBrief.{IsInOrder, KeyFits, brief_by, card_notes, front_by, op_of, ops_at, row_at, txn_of};
 ghost use Rattle.e3_types.specs.Sites.{bits_of, sites_of};
+ghost use Rattle.e3_types.specs.declared.records.Record.TheVariants as log;
 ghost use Rattle.e3_world.specs.declared.lives.Life.{Life};
 
 use crate::notes::add_seen;
@@ -143,30 +144,37 @@ fn cards_ascend(cards: &BTreeMap<TxnKey, Card>)
     let _entries = cards.iter();
 }
 
-// What the brief begins with.
-fn front(
+// The birth with the rows that the tables have.
+fn birth(alloc: Global, weights: &[u32], site: u32, tables: &Tables) -> Result<Record, NoMemory>
+    ensures { IfOk result (λ r. r ≡ log.Birth 1 site weights.now (flat_map row_at tables.now.names.places.names.entries)) }
+{
+    let rows = rows_of(alloc, &tables.names.places.names)?;
+    let mut own = List::new(alloc);
+    own.extend(weights)?;
+    Ok(Record::Birth {
+        format: 1,
+        site,
+        weights: own,
+        rows,
+    })
+}
+
+// Adds what the brief begins with.
+fn add_front(
     alloc: Global,
     weights: &[u32],
     site: u32,
     tables: &Tables,
-) -> Result<List<Record>, NoMemory>
-    ensures { IfOk result (λ out. out ≡ front_by weights.now site tables.now) }
+    out: &mut List<Record>,
+) -> Result<(), NoMemory>
+    ensures { IfOk result (λ u. out.new ≡ out.old ++ front_by weights.now site tables.now) }
 {
-    let mut out = List::new(alloc);
     let inc = tables.cards.inc;
-    if inc > 0 {
-        let mut own = List::new(alloc);
-        own.extend(weights)?;
-        let rows = rows_of(alloc, &tables.names.places.names)?;
-        out.push(Record::Birth {
-            format: 1,
-            site,
-            weights: own,
-            rows,
-        })?;
-        out.push(Record::Inc { inc })?;
+    if inc == 0 {
+        return Ok(());
     }
-    Ok(out)
+    out.push(birth(alloc, weights, site, tables)?)?;
+    out.push(Record::Inc { inc })
 }
 
 /// The brief of a site's log, by the site's weights, its number and its tables, whatever life these stand for whose log is in
@@ -184,7 +192,8 @@ pub(crate) fn brief_of_tables(
     let cards = &tables.cards.map;
     names_ascend(&places.names);
     cards_ascend(cards);
-    let mut out = front(alloc, weights, site, tables)?;
+    let mut out = List::new(alloc);
+    add_front(alloc, weights, site, tables, &mut out)?;
     add_cards(alloc, &places.txns, cards, &mut out)?;
     Ok(out)
 }

@@ -1,8 +1,8 @@
 // What a site does in an election: it hears, joins, reports, and concludes.
-ghost use Rattle.std.specs.Prelude.{◌≡◌, ◌&&◌, IfOk, MatchOption, suc, nat_le, nat_lt, if◌then◌else◌, true, false};
+ghost use Rattle.std.specs.Prelude.{◌≡◌, ◌&&◌, IfOk, MatchOption, suc, nat_le, nat_lt, if◌then◌else◌, true, false, Some};
 ghost use Rattle.e3_types.specs.declared.messages.Message.TheVariants as msg;
-ghost use Rattle.e3_world.specs.Making.{may_decide, and_cast, and_decide};
-ghost use Rattle.e3_world.specs.Elections.{all_heard, greatest_heard};
+ghost use Rattle.e3_world.specs.Making.{elected_now, may_decide, and_cast, and_decide};
+ghost use Rattle.e3_world.specs.Elections.{all_heard, election_in_progress, greatest_heard};
 ghost use Rattle.e3_world.specs.ElectionRules.{and_verdict, and_join, on_last, on_elected, on_report};
 
 use crate::making::{
@@ -70,13 +70,19 @@ fn number_above(e: &Election, elected: u32) -> Option<u32>
     if elected < n { Some(n) } else { None }
 }
 
-/// The whole group was heard: the site joins the greatest number plus one, unless it is not above its own or too great.
-pub fn and_join<P: Past>(p: &P, t: &Txn, e: &Election, made: &mut Made) -> Result<(), NoMemory>
+// The site joins under this number, one above the greatest of an election whose whole group was heard, where it is not below
+// the last that the site joined.
+fn join_under<P: Past>(
+    p: &P,
+    t: &Txn,
+    n: u32,
+    e: &Election,
+    made: &mut Made,
+) -> Result<(), NoMemory>
+    requires may { (all_heard e.now && nat_lt (greatest_heard e.now) 4294967295 && nat_le (elected_now (P.at p.now) t.now made.old) (greatest_heard e.now)) ≡ true }
+    requires number { n ≡ suc (greatest_heard e.now) }
     ensures { IfOk result (λ u. made.new ≡ and_join (P.at p.now) t.now e.now made.old) }
 {
-    let Some(n) = number_above(e, elected_now(p, t, made)) else {
-        return Ok(());
-    };
     let report = SiteReport {
         site: p.site(),
         state: state_now(p, t, made),
@@ -91,6 +97,36 @@ pub fn and_join<P: Past>(p: &P, t: &Txn, e: &Election, made: &mut Made) -> Resul
     }
 }
 
+/// The whole group was heard: the site joins the greatest number plus one, unless it is not above its own or too great.
+pub fn and_join<P: Past>(p: &P, t: &Txn, e: &Election, made: &mut Made) -> Result<(), NoMemory>
+    ensures { IfOk result (λ u. made.new ≡ and_join (P.at p.now) t.now e.now made.old) }
+{
+    match number_above(e, elected_now(p, t, made)) {
+        Some(n) => join_under(p, t, n, e, made),
+        None => Ok(()),
+    }
+}
+
+// An answer of site f to the call of this election, the one in progress, which is borrowed.
+fn hear_last<P: Past>(
+    p: &P,
+    f: u32,
+    t: &Txn,
+    call: Call,
+    elected: u32,
+    e: &mut Election,
+    made: &mut Made,
+) -> Result<(), NoMemory>
+    requires { Some e.old ≡ election_in_progress (P.at p.now).site (P.at p.now).life.inc t.now (P.at p.now).life.steps }
+    ensures { IfOk result (λ u. made.new ≡ on_last (P.at p.now) f t.now call elected made.old) }
+{
+    if e.heard(f, call, elected) {
+        and_join(p, t, e, made)
+    } else {
+        Ok(())
+    }
+}
+
 /// An answer of site f to the call of the election in progress: with the last one the site joins.
 pub fn on_last<P: Past>(
     p: &P,
@@ -102,13 +138,10 @@ pub fn on_last<P: Past>(
 ) -> Result<(), NoMemory>
     ensures { IfOk result (λ u. made.new ≡ on_last (P.at p.now) f t.now call elected made.old) }
 {
-    let Some(mut e) = p.election(t)? else {
-        return Ok(());
-    };
-    if !e.heard(f, call, elected) {
-        return Ok(());
+    match p.election(t)? {
+        Some(mut e) => hear_last(p, f, t, call, elected, &mut e, made),
+        None => Ok(()),
     }
-    and_join(p, t, &e, made)
 }
 
 /// A greater number, from site f: the site joins it and reports.
@@ -123,9 +156,29 @@ pub fn on_elected<P: Past>(p: &P, f: u32, t: &Txn, n: u32, made: &mut Made) -> R
             attempt: attempt_now(p, t, made),
         };
         and_record(Record::Join { txn: *t, n }, made)?;
-        and_send(p, f, report, made)?;
+        and_send(p, f, report, made)
+    } else {
+        Ok(())
     }
-    Ok(())
+}
+
+// A report to the elector of this election, the one in progress, which is borrowed.
+fn take_report<P: Past>(
+    p: &P,
+    t: &Txn,
+    n: u32,
+    report: SiteReport,
+    e: &mut Election,
+    made: &mut Made,
+) -> Result<(), NoMemory>
+    requires { Some e.old ≡ election_in_progress (P.at p.now).site (P.at p.now).life.inc t.now (P.at p.now).life.steps }
+    ensures { IfOk result (λ u. made.new ≡ on_report (P.at p.now) t.now n report made.old) }
+{
+    if e.reported(n, report) && e.complete() {
+        and_verdict(p, t, n, e.group(), e.reports(), made)
+    } else {
+        Ok(())
+    }
 }
 
 /// A report to the elector: with the last one it has a verdict.
@@ -138,11 +191,8 @@ pub fn on_report<P: Past>(
 ) -> Result<(), NoMemory>
     ensures { IfOk result (λ u. made.new ≡ on_report (P.at p.now) t.now n report made.old) }
 {
-    let Some(mut e) = p.election(t)? else {
-        return Ok(());
-    };
-    if !e.reported(n, report) || !e.complete() {
-        return Ok(());
+    match p.election(t)? {
+        Some(mut e) => take_report(p, t, n, report, &mut e, made),
+        None => Ok(()),
     }
-    and_verdict(p, t, n, e.group(), e.reports(), made)
 }

@@ -37,9 +37,9 @@ pub fn and_grants<P: Past>(p: &P, seen: u64, made: &mut Made) -> Result<(), NoMe
     requires { IsSoFar (P.at p.now) made.old }
     ensures { IfOk result (λ u. made.new ≡ and_grants (P.at p.now) seen made.old) }
 {
-    if has_decision(made.records.as_slice(), seen) {
-        let asked = p.grants_after(made)?;
-        grant_all(p, asked.as_slice(), made)?;
+    if !has_decision(made.records.as_slice(), seen) {
+        return Ok(());
     }
-    Ok(())
+    let asked = p.grants_after(made)?;
+    grant_all(p, asked.as_slice(), made)
 }

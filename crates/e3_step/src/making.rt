@@ -2,7 +2,7 @@
 ghost use Rattle.std.specs.Prelude.{◌≡◌, ◌||◌, IfOk, map};
 ghost use Rattle.e3_types.specs.declared.messages.Message.TheVariants as msg;
 ghost use Rattle.e3_world.specs.Logs.{decision, attempted, has_voted};
-ghost use Rattle.e3_world.specs.Making.{nothing, log_now, state_now, open_now, elected_now, attempt_now, is_coordinator, is_present, may_abort, may_decide, may_attempt, and_record, and_tell, and_send, and_cast, and_decide, and_abort, and_abort_for, and_attempt, and_vote, answer_now, and_do};
+ghost use Rattle.e3_world.specs.Making.{nothing, log_now, state_now, open_now, elected_now, attempt_now, is_coordinator, is_present, may_abort, may_decide, may_attempt, and_record, and_tell, and_send, and_cast, and_decide, and_abort, and_abort_for, and_attempt, go_on, and_vote, answer_now, and_do};
 ghost use Rattle.e3_step.specs.SoFar.{IsSoFar};
 
 use crate::past::Past;
@@ -207,9 +207,10 @@ pub fn and_decide<P: Past>(p: &P, t: &Txn, dir: Dir, made: &mut Made) -> Result<
 {
     and_record(Record::Decision { txn: *t, dir }, made)?;
     if is_coordinator(p, t) && is_present(p, t) {
-        and_tell(Told::Ended { txn: *t, dir }, made)?;
+        and_tell(Told::Ended { txn: *t, dir }, made)
+    } else {
+        Ok(())
     }
-    Ok(())
 }
 
 /// The coordinator aborts and sends the abort to all other sites.
@@ -235,6 +236,19 @@ pub fn and_abort_for<P: Past>(p: &P, t: &Txn, why: Told, made: &mut Made) -> Res
     cast_decision(p, t.sites, t, Dir::Abort, made)
 }
 
+// Behind an attempt: the decision at once where the site is a quorum by itself, else the pre-decision, to these sites.
+fn go_on<P: Past>(p: &P, attempt: Attempt, to: SiteSet, made: &mut Made) -> Result<(), NoMemory>
+    ensures { IfOk result (λ u. made.new ≡ go_on (P.at p.now) attempt.txn attempt.n attempt.dir to made.old) }
+{
+    let Attempt { txn, n, dir } = attempt;
+    if is_quorum_with(p.weights(), p.site(), &[], txn.sites) {
+        and_decide(p, &txn, dir, made)?;
+        cast_decision(p, to, &txn, dir, made)
+    } else {
+        and_cast(p, to, &Message::Pre { txn, n, dir }, made)
+    }
+}
+
 /// An attempt of the site's own round, and behind it, to these sites, the decision at once where the site is a quorum by
 /// itself, else the pre-decision.
 pub fn and_attempt<P: Past>(
@@ -250,12 +264,7 @@ pub fn and_attempt<P: Past>(
         return Ok(());
     }
     and_record(Record::Attempt { txn, n, dir }, made)?;
-    if is_quorum_with(p.weights(), p.site(), &[], txn.sites) {
-        and_decide(p, &txn, dir, made)?;
-        cast_decision(p, to, &txn, dir, made)
-    } else {
-        and_cast(p, to, &Message::Pre { txn, n, dir }, made)
-    }
+    go_on(p, attempt, to, made)
 }
 
 fn voted(alloc: Global, performed: &[Performed]) -> Result<List<NumOp>, NoMemory>

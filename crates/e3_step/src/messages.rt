@@ -31,18 +31,20 @@ fn on_no<P: Past>(p: &P, t: &Txn, made: &mut Made) -> Result<(), NoMemory>
     ensures { IfOk result (λ u. made.new ≡ (if may_abort (P.at p.now) t.now made.old then and_abort (P.at p.now) t.now made.old else made.old)) }
 {
     if may_abort(p, t, made) {
-        and_abort(p, t, made)?;
+        and_abort(p, t, made)
+    } else {
+        Ok(())
     }
-    Ok(())
 }
 
 fn on_decide<P: Past>(p: &P, f: u32, t: &Txn, dir: Dir, made: &mut Made) -> Result<(), NoMemory>
     ensures { IfOk result (λ u. made.new ≡ on_message (P.at p.now) f (msg.Decide t.now dir) made.old) }
 {
     if may_decide(p, t, dir, made) {
-        and_decide(p, t, dir, made)?;
+        and_decide(p, t, dir, made)
+    } else {
+        Ok(())
     }
-    Ok(())
 }
 
 /// Each message, from site f.

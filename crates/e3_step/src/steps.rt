@@ -205,15 +205,6 @@ fn take<P: Past>(p: &P, input: &Input, made: &mut Made) -> Result<(), NoMemory>
     }
 }
 
-/// Each input, by a step that made nothing yet.
-pub fn on_input<P: Past>(p: &P, input: &Input) -> Result<Made, NoMemory>
-    ensures { IfOk result (λ made. made ≡ on_input (P.at p.now) input.now nothing) }
-{
-    let mut made = nothing(p.alloc());
-    take(p, input, &mut made)?;
-    Ok(made)
-}
-
 /// One message of a step to its own site.
 pub fn handled<P: Past>(p: &P, m: &Message, made: &mut Made) -> Result<(), NoMemory>
     requires { IsSoFar (P.at p.now) (handled (P.at p.now) made.old m.now) }
@@ -237,6 +228,19 @@ pub fn settle_once<P: Past>(p: &P, made: &mut Made) -> Result<(), NoMemory>
     Ok(())
 }
 
+// What the input of this place makes of a step that made nothing yet: what may be refused borrows it.
+fn make<P: Past>(p: &P, input: &Input, made: &mut Made) -> Result<(), NoMemory>
+    requires input { input.now ≡ (P.at p.now).input }
+    requires nothing { made.old ≡ nothing }
+    ensures { IfOk result (λ u. made.new ≡ step_at (P.at p.now)) }
+{
+    take(p, input, made)?;
+    and_grants(p, 0, made)?;
+    settle_once(p, made)?;
+    settle_once(p, made)?;
+    settle_once(p, made)
+}
+
 /// The step that is made at this place. It has fewer packets than 32 bits count, where it comes behind fewer than 4,000,000,000
 /// steps.
 pub fn step_at<P: Past>(p: &P) -> Result<Made, NoMemory>
@@ -246,10 +250,7 @@ pub fn step_at<P: Past>(p: &P) -> Result<Made, NoMemory>
     let input = p.input();
     takes_few(p, input)?;
     steps_send_few();
-    let mut made = on_input(p, input)?;
-    and_grants(p, 0, &mut made)?;
-    settle_once(p, &mut made)?;
-    settle_once(p, &mut made)?;
-    settle_once(p, &mut made)?;
+    let mut made = nothing(p.alloc());
+    make(p, input, &mut made)?;
     Ok(made)
 }

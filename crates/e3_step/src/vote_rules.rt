@@ -1,5 +1,8 @@
 // What a site does when it is asked for its vote, and a coordinator with a yes.
-ghost use Rattle.std.specs.Prelude.{◌≡◌, ◌==◌, ◌&&◌, ◌||◌, not, IfOk};
+ghost use Rattle.std.specs.Prelude.{◌≡◌, ◌==◌, ◌&&◌, ◌||◌, if◌then◌else◌, not, true, false, IfOk};
+ghost use Rattle.e3_types.specs.declared.messages.Message.TheVariants as msg;
+ghost use Rattle.e3_types.specs.declared.transactions.Dir.TheVariants.{Abort};
+ghost use Rattle.e3_world.specs.Making.{and_decide, and_send, and_vote};
 ghost use Rattle.e3_world.specs.VoteRules.{vote_rule, on_vote_req, on_yes};
 
 use crate::making::{
@@ -26,6 +29,27 @@ pub fn vote_rule<P: Past>(p: &P, t: &Txn, asked: Expected, made: &Made) -> Resul
     Ok(may_say_yes(asked.count, performed.len(), asked.inc, p.inc(), waits))
 }
 
+// A site in q votes and says yes, where it may; else it aborts and says no.
+fn vote_or_abort<P: Past>(
+    p: &P,
+    f: u32,
+    t: &Txn,
+    asked: Expected,
+    made: &mut Made,
+) -> Result<(), NoMemory>
+    ensures { IfOk result (λ u. made.new ≡ (if vote_rule (P.at p.now) t.now asked.inc asked.count made.old
+        then and_send (P.at p.now) f (msg.Vote t.now true) (and_vote (P.at p.now) t.now made.old)
+        else and_send (P.at p.now) f (msg.Vote t.now false) (and_decide (P.at p.now) t.now Abort made.old))) }
+{
+    if vote_rule(p, t, asked, made)? {
+        and_vote(p, t, made)?;
+        and_send(p, f, vote_of(t, true), made)
+    } else {
+        and_decide(p, t, Dir::Abort, made)?;
+        and_send(p, f, vote_of(t, false), made)
+    }
+}
+
 /// A site that is asked for its vote, by site f, which says what it expects of it.
 pub fn on_vote_req<P: Past>(
     p: &P,
@@ -40,15 +64,7 @@ pub fn on_vote_req<P: Past>(
     match (state_now(p, t, made), first) {
         (State::A, _) => and_send(p, f, vote_of(t, false), made),
         (State::W, true) => and_send(p, f, vote_of(t, true), made),
-        (State::Q, true) => {
-            if vote_rule(p, t, asked, made)? {
-                and_vote(p, t, made)?;
-                and_send(p, f, vote_of(t, true), made)
-            } else {
-                and_decide(p, t, Dir::Abort, made)?;
-                and_send(p, f, vote_of(t, false), made)
-            }
-        }
+        (State::Q, true) => vote_or_abort(p, f, t, asked, made),
         _ => Ok(()),
     }
 }
@@ -64,7 +80,8 @@ pub fn on_yes<P: Past>(p: &P, t: &Txn, made: &mut Made) -> Result<(), NoMemory>
         return Ok(());
     }
     if p.has_every_yes(t, made)? {
-        and_attempt(p, Attempt::new(t, 1, Dir::Commit), t.sites, made)?;
+        and_attempt(p, Attempt::new(t, 1, Dir::Commit), t.sites, made)
+    } else {
+        Ok(())
     }
-    Ok(())
 }

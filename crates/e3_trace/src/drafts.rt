@@ -1,5 +1,5 @@
 // The entry whose lines are being read.
-ghost use Rattle.std.specs.Prelude.{◌≡◌, ◌+◌, ◌++◌, ◌∷◌, [], OnOk, option_to_list};
+ghost use Rattle.std.specs.Prelude.{◌≡◌, ◌+◌, ◌++◌, ◌∷◌, [], OnOk, option_to_list, None, Some, if◌then◌else◌};
 ghost use Rattle.e3_trace.specs.Cuts.{Gives, Leaves};
 ghost use Rattle.e3_trace.specs.Drafts.{grown, records_of, ops_due, is_complete, is_step, act_by, entry_from, draft_of, growing_with, with_record, takes_records, takes_packets, takes_told, with_input, with_packet, with_told};
 ghost use Rattle.e3_trace.specs.Past.{SameOuts, knowing};
@@ -226,24 +226,39 @@ impl Draft {
         add(alloc, &mut self.told, event)
     }
 
+    // The record that grows is one of the others from now on, where no line of the entry is due.
+    fn finish(&mut self, alloc: Global) -> Result<(), Fault>
+        ensures { Leaves result self.new (if is_complete self.old then Some (record self.old { records = records_of self.old; growing = growing.Nothing }) else None) }
+    {
+        if !self.is_complete() {
+            return Err(Fault::Bad);
+        }
+        self.close_record(alloc)?;
+        Ok(())
+    }
+
+    // The entry of these lines, where no record grows.
+    fn into_entry(self) -> Entry
+        ensures { result ≡ record { owner = self.owner; act = act_by self.head self.inputs self.records self.outs self.told } }
+    {
+        let owner = self.owner;
+        let act = act(
+            self.head,
+            fitted(self.inputs),
+            fitted(self.records),
+            fitted(self.outs),
+            fitted(self.told),
+        );
+        Entry { owner, act }
+    }
+
     /// The entry, where no line of it is due. Its lists have room for just their items.
     #[tactic(auto, unfolding(crate::specs::Drafts::entry_from))]
     pub(crate) fn entry(self, alloc: Global) -> Result<Entry, Fault>
         ensures { Gives result (entry_from self) }
     {
-        if !self.is_complete() {
-            return Err(Fault::Bad);
-        }
         let mut draft = self;
-        draft.close_record(alloc)?;
-        let owner = draft.owner;
-        let act = act(
-            draft.head,
-            fitted(draft.inputs),
-            fitted(draft.records),
-            fitted(draft.outs),
-            fitted(draft.told),
-        );
-        Ok(Entry { owner, act })
+        draft.finish(alloc)?;
+        Ok(draft.into_entry())
     }
 }

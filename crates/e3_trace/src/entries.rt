@@ -1,10 +1,12 @@
 // The first lines of entries, read behind what earlier lines tell.
 ghost use Rattle.std.specs.Prelude.{◌≡◌, [], IfErr, IfOk, codes};
-ghost use Rattle.e3_trace.specs.Cuts.{pair_of, behind, Gives};
+ghost use Rattle.e3_trace.specs.Cuts.{made_of, pair_of, behind, Gives};
+ghost use Rattle.e3_trace.specs.Drafts.{draft_of};
 ghost use Rattle.e3_report.specs.lines.Marks.{space};
-ghost use Rattle.e3_trace.specs.Entries.{full_and, why_and, why_of, kept_of, rise_of, kept_why_of, failed_rise_of, act_by, draft_by, form_of};
+ghost use Rattle.e3_trace.specs.Entries.{full_and, why_and, why_of, kept_of, rise_of, kept_why_of, failed_rise_of, fall_of, step_of, whole_of, act_by, draft_by, form_of};
 ghost use Rattle.e3_trace.specs.Fields.{u64_of};
 ghost use Rattle.e3_trace.specs.Past.{knowing, sends};
+ghost use Rattle.e3_trace.specs.declared.drafts.Head.TheVariants as head;
 ghost use Rattle.e3_world.specs.Packets.{outs_of, sent};
 
 use crate::cuts::{SPACE, behind, cut};
@@ -142,7 +144,35 @@ fn act_by(alloc: Global, verb: &[u8], text: &[u8]) -> Result<Act, Fault>
     }
 }
 
-#[tactic(auto, unfolding(crate::specs::Entries::draft_by, crate::specs::Entries::fall_of))]
+// A step begins with its input.
+fn step(alloc: Global, known: &Known, past: &Past, owner: u32, text: &[u8]) -> Result<Draft, Fault>
+    ensures gives { Gives result (step_of (knowing known.now (sent past.now)) owner text.now) }
+    ensures outs { IfOk result (λ d. sends d ≡ []) }
+{
+    let input = input(alloc, known, past, text)?;
+    Ok(Draft::new(alloc, owner, Head::Step(input), 0))
+}
+
+// A fall begins with its cause, and how many inputs are due.
+#[tactic(auto, unfolding(crate::specs::Entries::fall_of))]
+fn fall(alloc: Global, owner: u32, text: &[u8]) -> Result<Draft, Fault>
+    ensures gives { Gives result (made_of (λ p. draft_of owner (head.Fall p.0) p.1) fall_of text.now) }
+    ensures outs { IfOk result (λ d. sends d ≡ []) }
+{
+    let (why, due) = why_and::<u64>(text)?;
+    Ok(Draft::new(alloc, owner, Head::Fall(why), due))
+}
+
+// An entry that has no other line.
+fn whole(alloc: Global, owner: u32, verb: &[u8], text: &[u8]) -> Result<Draft, Fault>
+    ensures gives { Gives result (made_of (whole_of owner) (act_by verb.now) text.now) }
+    ensures outs { IfOk result (λ d. sends d ≡ []) }
+{
+    let act = act_by(alloc, verb, text)?;
+    Ok(Draft::new(alloc, owner, Head::Whole(act), 0))
+}
+
+#[tactic(auto, unfolding(crate::specs::Entries::draft_by))]
 fn draft_by(
     alloc: Global,
     known: &Known,
@@ -155,14 +185,11 @@ fn draft_by(
     ensures outs { IfOk result (λ d. sends d ≡ []) }
 {
     if is_text(verb, "step") {
-        let input = input(alloc, known, past, text)?;
-        Ok(Draft::new(alloc, owner, Head::Step(input), 0))
+        step(alloc, known, past, owner, text)
     } else if is_text(verb, "fall") {
-        let (why, due) = why_and::<u64>(text)?;
-        Ok(Draft::new(alloc, owner, Head::Fall(why), due))
+        fall(alloc, owner, text)
     } else {
-        let act = act_by(alloc, verb, text)?;
-        Ok(Draft::new(alloc, owner, Head::Whole(act), 0))
+        whole(alloc, owner, verb, text)
     }
 }
 

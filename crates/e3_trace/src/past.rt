@@ -1,5 +1,5 @@
 // The entries that are read, and where their packets stand.
-ghost use Rattle.std.specs.Prelude.{◌≡◌, ◌++◌, ◌∷◌, [], length, IfOk, OnOk, option_and_then};
+ghost use Rattle.std.specs.Prelude.{◌≡◌, ◌≤◌, ◌++◌, ◌∷◌, [], length, IfOk, OnOk, option_and_then};
 ghost use Rattle.std.specs.BTreeMap.{insert_entry};
 ghost use Rattle.std.specs.Ordering.{nat_cmp};
 ghost use Rattle.e3_world.specs.Packets.{outs_of, sent};
@@ -94,6 +94,21 @@ fn add_places(
     Ok(())
 }
 
+// The packets of the entry stand behind those of these entries, and there is room for it.
+fn make_room(
+    places: &mut BTreeMap<u64, Place>,
+    entries: &mut History,
+    entry: &Entry,
+) -> Result<(), NoMemory>
+    requires { ArePlaces entries.old.entries places.old.entries (by_number (sent entries.old.entries)) }
+    ensures same { entries.new.entries ≡ entries.old.entries }
+    ensures room { OnOk result (1 ≤ entries.new.room) }
+    ensures places { OnOk result (ArePlaces (entries.old.entries ++ entry.now ∷ []) places.new.entries (by_number (sent (entries.old.entries ++ entry.now ∷ [])))) }
+{
+    add_places(places, entries, entry)?;
+    entries.reserve(1)
+}
+
 impl Past {
     /// No entry.
     pub(crate) fn nothing(alloc: Global) -> Past
@@ -125,8 +140,7 @@ impl Past {
     {
         let mut entries = self.entries;
         let mut places = self.places;
-        add_places(&mut places, &entries, &entry)?;
-        entries.reserve(1)?;
+        make_room(&mut places, &mut entries, &entry)?;
         entries.push(entry);
         Ok(Past { entries, places })
     }

@@ -164,13 +164,16 @@ impl Reading {
     fn add_line(&mut self, alloc: Global, word: &[u8], text: &[u8]) -> Result<(), Fault>
         ensures { Leaves result self.new (marked_line self.old word.now text.now) }
     {
-        match self.draft.take() {
+        match &mut self.draft {
             None => Err(Fault::Bad),
             Some(draft) => {
-                let mut draft = draft;
-                add_line(alloc, &mut self.known, &self.past, &mut draft, word, text)?;
-                self.draft = Some(draft);
-                Ok(())
+                match add_line(alloc, &mut self.known, &self.past, draft, word, text) {
+                    Ok(()) => Ok(()),
+                    Err(fault) => {
+                        self.draft = None;
+                        Err(fault)
+                    }
+                }
             }
         }
     }

@@ -2,7 +2,7 @@
 ghost use Rattle.std.specs.Prelude.{◌≡◌, ◌≤◌, ◌++◌, ◌∷◌, [], true, length, IfOk};
 ghost use Rattle.e3_judge.specs.audit.Seats.{Stands};
 ghost use Rattle.e3_judge.specs.audit.Walks.{IsWalked};
-ghost use Rattle.e3_readings.specs.Bindings.{bound_behind};
+ghost use Rattle.e3_readings.specs.Bindings.{bound_behind, nothing_bound};
 
 use crate::Prefix;
 use crate::audit::auditor::Auditor;
@@ -112,27 +112,29 @@ impl Auditor {
     }
 }
 
-// Walks over a history with what is kept of it.
+// Walks over a history with what is kept of it and with the names that it binds, up to the first entry that is not seen to be
+// legal.
 fn walk_with(
     auditor: &mut Auditor,
+    binding: &mut BoundNames,
     alloc: Global,
     scenario: &Scenario,
     history: &[Entry],
 ) -> Result<Walked, NoMemory>
-    requires { Stands scenario.now [] auditor.old }
+    requires stands { Stands scenario.now [] auditor.old }
+    requires bound { binding.old ≡ nothing_bound }
     ensures { IfOk result (IsWalked scenario.now history.now) }
 {
-    let mut binding = nothing_bound(alloc);
     for at in 0..history.len() {
         let after = &history[..at + 1];
         let prefix = Prefix::of(alloc, scenario, &history[..at]);
-        if !auditor.enter(&prefix, after, &binding, &history[at])? {
+        if !auditor.enter(&prefix, after, binding, &history[at])? {
             return Ok(Walked {
                 passed: at,
                 through: false,
             });
         }
-        bind(alloc, scenario, &history[at..at + 1], &mut binding)?;
+        bind(alloc, scenario, &history[at..at + 1], binding)?;
     }
     let through = auditor.is_through(&Prefix::of(alloc, scenario, history))?;
     Ok(Walked {
@@ -150,7 +152,10 @@ pub(crate) fn walk(
     ensures { IfOk result (IsWalked scenario.now history.now) }
 {
     match Auditor::start(alloc, scenario)? {
-        Some(mut auditor) => walk_with(&mut auditor, alloc, scenario, history),
+        Some(mut auditor) => {
+            let mut binding = nothing_bound(alloc);
+            walk_with(&mut auditor, &mut binding, alloc, scenario, history)
+        }
         None => Ok(Walked {
             passed: 0,
             through: false,

@@ -14,7 +14,7 @@ use Rattle.e3_types.specs.declared.transactions.Row.{Row}
 use Rattle.e3_types.specs.declared.transactions.Txn.{Txn}
 use Rattle.e3_types.specs.Same.{same_txn}
 use Rattle.e3_world.specs.Items.{add_txn, txn_of_record}
-use Rattle.e3_world.specs.Logs.{attempted, decision, install_op, is_undecided, logged_inc, logged_inc_by, table_by, table_of, voted_ops}
+use Rattle.e3_world.specs.Logs.{decision, install_op, is_undecided, logged_inc, logged_inc_by, table_by, table_of, voted_ops}
 use Rattle.e3_world.specs.Orderly.{weights_by, weights_in, IsOrderly}
 use Rattle.e3_laws.specs.brief.Alike.{ReadAlike}
 use Rattle.e3_world.specs.Brief.{brief, born_by, born_in, inc_in, noted, open_ops, txns_of}

@@ -9,7 +9,7 @@ use Rattle.e3_types.specs.declared.transactions.Dir.TheVariants.{Abort, Commit}
 use Rattle.e3_types.specs.declared.transactions.Row.{Row}
 use Rattle.e3_types.specs.declared.transactions.Txn.{Txn}
 use Rattle.e3_world.specs.Items.{add_txn, txn_of_record}
-use Rattle.e3_world.specs.Logs.{last_elected_by, last_attempt_by, attempted_by, attempted, decision_by, decision, install_op, is_undecided, is_vote, logged_inc_by, ops_of_vote, table_by, table_of}
+use Rattle.e3_world.specs.Logs.{last_elected_by, last_attempt_by, attempted_by, decision_by, decision, install_op, is_undecided, is_vote, logged_inc_by, ops_of_vote, table_by, table_of}
 use Rattle.e3_world.specs.Orderly.{is_among, is_free, is_known, weights_by, MayFollow, OrderlyAfter}
 use Rattle.e3_laws.specs.brief.Alike.{ReadAlike}
 use Rattle.e3_world.specs.Brief.{brief, born_by, born_in, inc_in, noted, open_ops, txns_of}

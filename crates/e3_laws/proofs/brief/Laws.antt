@@ -1,7 +1,6 @@
 -- The laws of briefs, put together.
 use Rattle.std.proofs.Common.{◌∷◌, [], ◌++◌, ℕ, is_none, List, sym, ap, subst, ◌∙◌, append_assoc, append-nil}
 use Rattle.e3_types.specs.declared.records.Record.{Record}
-use Rattle.e3_types.specs.declared.records.Record.TheVariants as log
 use Rattle.e3_world.specs.Orderly.{OrderlyAfter}
 use Rattle.e3_laws.specs.brief.Alike.{ReadAlike}
 use Rattle.e3_world.specs.Brief.{brief}

@@ -1,5 +1,5 @@
 -- The brief of an orderly log is orderly.
-use Rattle.std.proofs.Common.{◌≡◌, ◌≢◌, ◌∷◌, [], ◌++◌, ◌||◌, ◌&&◌, ℕ, Bool, true, false, cond, List, ◌⊎◌, inl, inr, refl, sym, ap, subst, ◌∙◌, append_assoc, append-nil, if◌then◌else◌}
+use Rattle.std.proofs.Common.{◌≡◌, ◌∷◌, [], ◌++◌, ◌||◌, ◌&&◌, ℕ, Bool, true, false, cond, List, ◌⊎◌, inl, inr, refl, sym, ap, subst, ◌∙◌, append_assoc, append-nil, if◌then◌else◌}
 use Rattle.std.specs.Prelude.{not}
 use Rattle.std.specs.List.{list_any, list_all, AllByRecursion as Each}
 use Rattle.std.proofs.lemmas.Bool.{or_parts, or_from, and_from, and_parts, not-true, not_from_false, true≢false}

@@ -14,7 +14,6 @@ use Rattle.e3_world.specs.declared.lives.At.{At}
 use Rattle.e3_world.specs.declared.lives.Made.{Made}
 use Rattle.e3_world.specs.Making.{nothing, is_coordinator, is_present, open_now, and_tell, and_grants}
 use Rattle.e3_world.specs.Messages.{on_message}
-use Rattle.e3_world.specs.Operations.{done}
 use Rattle.e3_world.specs.Rounds.{count_ack}
 use Rattle.e3_world.specs.Sound.{txn_in}
 use Rattle.e3_world.specs.Steps.{handled, settle}

@@ -17,7 +17,7 @@ use Rattle.e3_log.specs.declared.fault.TurnFault.{TurnFault}
 use Rattle.e3_log.specs.declared.fault.TurnFault.TheVariants as turn_fault
 use Rattle.e3_log.proofs.Append.{new_end}
 use Rattle.e3_node.specs.site_log.Bodies.{IsLogged, bodies_in, body_of, joined}
-use Rattle.e3_node.specs.site_log.Ends.{HasRoom, IsFull, IsReason, Takes, calls_for, frame_end, size_of, turn_why, why_of}
+use Rattle.e3_node.specs.site_log.Ends.{HasRoom, LacksRoom, IsReason, Takes, calls_for, frame_end, size_of, turn_why, why_of}
 use Rattle.e3_node.specs.declared.site_log.writing.Short.{Short}
 use Rattle.e3_node.proofs.site_log.Writes.{none_kept}
 use Rattle.e3_types.specs.Spelling.{spelling}
@@ -222,7 +222,7 @@ module _ {D : Type 0} (meters : D → Meters) (l records : List Record) where
         let room_so : room ≡ to = it.2 in
         let over : room < from + 11 + size_of (brief l) = omega (arith, past, room_so, size) in
         let plain : need ≡ from + 11 + size_of (brief l) = omega (arith, need_so, size) in
-        subst (λ (k : ℕ). IsFull k l records need room) keeps.capacity
+        subst (λ (k : ℕ). LacksRoom k l records need room) keeps.capacity
         (record {
           region = other mid.region;
           room_is = room_so;

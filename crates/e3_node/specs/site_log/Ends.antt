@@ -36,7 +36,7 @@ frame_end from to (r ∷ rs) records = turned_end from to (brief (r ∷ rs)) rec
 
 -- The frame of these records had no room behind this log on a disk of this capacity: `room` is the end of a region, and `need`
 -- passes it. It is the end of the frame behind the brief of the log, or of the brief's own; of an empty log the end of the frame.
-pub record IsFull (capacity : ℕ) (log records : List Record) (need room : ℕ) : Type 0 where
+pub record LacksRoom (capacity : ℕ) (log records : List Record) (need room : ℕ) : Type 0 where
   pub region : Region
   pub room_is : room ≡ limit capacity region
   pub past : room < need
@@ -45,7 +45,7 @@ pub record IsFull (capacity : ℕ) (log records : List Record) (need room : ℕ)
 -- The reason is true: the disk's count of faults rose, or the frame had no room.
 abbrev pub IsReason : Why → List Record → List Record → Meters → Meters → Type 0
 IsReason Fault log records old new = HasFailed old.faults new.faults
-IsReason (Full need room) log records old new = IsFull old.capacity log records need room
+IsReason (Full need room) log records old new = LacksRoom old.capacity log records need room
 
 -- why a frame was not added, and why a log was not turned
 abbrev pub why_of : AppendFault → Why

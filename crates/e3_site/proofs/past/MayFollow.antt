@@ -6,7 +6,7 @@ use Rattle.e3_types.specs.declared.records.Record.{Record}
 use Rattle.e3_types.specs.declared.transactions.Txn.{Txn}
 use Rattle.e3_world.specs.declared.lives.At.{At}
 use Rattle.e3_world.specs.declared.lives.Made.{Made}
-use Rattle.e3_world.specs.Logs.{decision, is_undecided}
+use Rattle.e3_world.specs.Logs.{is_undecided}
 use Rattle.e3_world.specs.Making.{and_send, open_now}
 use Rattle.e3_site.specs.past.Claims.{StepsMayFollow}
 use Rattle.e3_laws.proofs.steps.Adding.{Preserves}

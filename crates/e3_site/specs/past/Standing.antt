@@ -4,7 +4,6 @@ use Rattle.std.specs.Option.{IsSome}
 use Rattle.e3_types.specs.declared.entries.Input.{Input}
 use Rattle.e3_types.specs.declared.records.Record.{Record}
 use Rattle.e3_world.specs.Serial.{is_birth}
-use Rattle.e3_types.specs.declared.records.Record.TheVariants as log
 use Rattle.e3_world.specs.declared.lives.At.{At}
 use Rattle.e3_world.specs.declared.lives.Life.{Life}
 use Rattle.e3_cards.specs.declared.cards.Cards.{Cards}

@@ -1,17 +1,18 @@
 // The operation that a step takes up, where it did not come before.
-ghost use Rattle.std.specs.Prelude.{◌≡◌, ◌<◌};
+ghost use Rattle.std.specs.Prelude.{◌≡◌, ◌<◌, option_copied, unwrap_or};
 ghost use Rattle.e3_world.specs.declared.lives.At.{At};
 ghost use Rattle.e3_world.specs.declared.lives.SiteStep.{SiteStep};
+ghost use Rattle.e3_cards.specs.Cards.{blank};
 ghost use Rattle.e3_cards.specs.Seeing.{seen_state};
 ghost use Rattle.e3_cards.specs.Tables.{AreCountable, CardsStand};
 ghost use Rattle.e3_places.specs.Standing.{fresh_of};
 ghost use Rattle.e3_readings.specs.Bringing.{is_new_to, issued_before};
 ghost use Rattle.e3_site.specs.past.Fresh.{is_new, fresh_as};
 
-use e3_cards::{Card, Cards, blank, card_or, seen_state};
+use e3_cards::{Card, Cards, seen_state, txn_key};
 use e3_places::Standing;
 use e3_readings::{brought, is_new_to};
-use e3_types::{Input, Told};
+use e3_types::{Input, State, Told};
 use e3_world::{Asked, found_by_bits};
 use std::alloc::Global;
 
@@ -26,24 +27,27 @@ fn issued_before(alloc: Global, cards: &Cards, input: &Input) -> u64
     }
 }
 
-fn is_new_on(card: &Card, q: &Asked) -> bool
-    ensures { result ≡ is_new_to (seen_state card.now.seen) card.now.came q.now }
+// A transaction with no card is in q, and none of its operations came.
+fn is_new_on(card: Option<&Card>, q: &Asked) -> bool
+    ensures { result ≡ is_new_to (seen_state (unwrap_or (option_copied card.entry) blank).seen) (unwrap_or (option_copied card.entry) blank).came q.now }
 {
-    is_new_to(seen_state(&card.seen), card.came.as_slice(), q)
+    match card {
+        Some(card) => is_new_to(seen_state(&card.seen), card.came.as_slice(), q),
+        None => is_new_to(State::Q, &[], q),
+    }
 }
 
-fn is_new(alloc: Global, cards: &Cards, q: &Asked) -> bool
+fn is_new(cards: &Cards, q: &Asked) -> bool
     ensures { (a : At) → CardsStand a.site cards.now a.life → result ≡ is_new a.site a.life q.now }
 {
     found_by_bits(&q.txn);
-    let none = blank(alloc);
-    is_new_on(card_or(&cards.map, &q.txn, &none), q)
+    is_new_on(cards.map.get(&txn_key(&q.txn)), q)
 }
 
 fn fresh_as(alloc: Global, cards: &Cards, q: Asked) -> Option<Standing>
     ensures { (a : At) → CardsStand a.site cards.now a.life → result ≡ fresh_as a.site a.life q }
 {
-    if is_new(alloc, cards, &q) {
+    if is_new(cards, &q) {
         let answered = cards.answer(alloc, &q).is_some();
         Some(Standing { asked: q, answered })
     } else {

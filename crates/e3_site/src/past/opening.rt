@@ -183,15 +183,30 @@ fn sift_by(r: &Record, txns: &mut Vec<Txn>)
     sift_all_by(r, txns);
 }
 
+// Adds the transactions that a step adds: what may be refused borrows them.
+fn add_opens(
+    alloc: Global,
+    cards: &Cards,
+    step: &SiteStep,
+    more: &mut Opens,
+) -> Result<(), NoMemory>
+    requires countable { AreCountable cards.now }
+    requires none { (site inc : ℕ) → OpensStand site more.old (unstepped inc []) }
+    ensures { IfOk result (λ u. (a : At) → CardsStand a.site cards.now a.life → AreAdded a.site a.life step.now more.new) }
+{
+    add_all_known(cards, step.records.as_slice(), &mut more.logged)?;
+    add_arrived(alloc, cards, step, &mut more.arrived)?;
+    add_all_known(cards, step.told.as_slice(), &mut more.begun)?;
+    Ok(())
+}
+
 /// The transactions that a step adds to those that are open, by the cards before it. Want of memory is the only error.
 pub(crate) fn added(alloc: Global, cards: &Cards, step: &SiteStep) -> Result<Opens, NoMemory>
     requires { AreCountable cards.now }
     ensures { IfOk result (λ more. (a : At) → CardsStand a.site cards.now a.life → AreAdded a.site a.life step.now more) }
 {
     let mut more = no_opens(alloc);
-    add_all_known(cards, step.records.as_slice(), &mut more.logged)?;
-    add_arrived(alloc, cards, step, &mut more.arrived)?;
-    add_all_known(cards, step.told.as_slice(), &mut more.begun)?;
+    add_opens(alloc, cards, step, &mut more)?;
     Ok(more)
 }
 

@@ -1,5 +1,7 @@
 // A past that is read anew each time.
-ghost use Rattle.std.specs.Prelude.{◌≡◌, ◌<◌, length};
+ghost use Rattle.std.specs.Prelude.{◌≡◌, ◌<◌, ◌≤◌, ◌&&◌, IfOk, length};
+ghost use Rattle.e3_readings.specs.Awaiting.{is_at_site, is_number};
+ghost use Rattle.e3_world.specs.Operations.{issued, nth_op, unanswered};
 
 use crate::Past;
 use crate::plain::grants::grants_after;
@@ -13,8 +15,8 @@ use e3_readings::{
     have_every_yes, is_among, issued, kept_reason, key_of, last_attempt, last_elected, last_own,
     next_call, nth_op, round_in_progress, row_value, table_of, unanswered, votes_in,
 };
-use e3_types::{Answer, Call, Dir, Grant, Input, List, Name, NoMemory, Refusal, Txn};
-use e3_world::{Asked, At, Expected, Made, Performed};
+use e3_types::{Answer, Call, Dir, Grant, Input, List, Name, NoMemory, Record, Refusal, Txn};
+use e3_world::{Asked, At, Expected, Made, Moment, Performed};
 use std::alloc::Global;
 use std::marker::Model;
 
@@ -44,6 +46,25 @@ impl Anew {
         ensures { result ≡ place }
     {
         Anew { alloc, place }
+    }
+}
+
+// Operation n is the unanswered one by this log and these steps, and its key is at site f.
+fn awaits(
+    alloc: Global,
+    f: u32,
+    t: &Txn,
+    n: u32,
+    log: &[Record],
+    steps: &[Moment],
+) -> Result<bool, NoMemory>
+    requires { length steps.now ≤ 4294967295 }
+    ensures { IfOk result (λ b. b ≡ (is_number n (unanswered t.now log.now steps.now) && is_at_site f (nth_op n (issued t.now steps.now)))) }
+{
+    let ops = issued(alloc, t, steps)?;
+    match (unanswered(alloc, t, log, steps)?, nth_op(n, ops.as_slice())) {
+        (Some(m), Some(op)) => Ok(n == m && key_of(op).site == f),
+        _ => Ok(false),
     }
 }
 
@@ -108,14 +129,7 @@ impl Past for Anew {
     fn is_awaited(&self, f: u32, t: &Txn, n: u32, made: &Made) -> Result<bool, NoMemory> {
         let log = log_now(self.alloc, &self.place, made)?;
         let steps = steps_now(self.alloc, &self.place, made)?;
-        let ops = issued(self.alloc, t, steps.as_slice())?;
-        match (
-            unanswered(self.alloc, t, log.as_slice(), steps.as_slice())?,
-            nth_op(n, ops.as_slice()),
-        ) {
-            (Some(m), Some(op)) => Ok(n == m && key_of(op).site == f),
-            _ => Ok(false),
-        }
+        awaits(self.alloc, f, t, n, log.as_slice(), steps.as_slice())
     }
 
     fn expected(&self, t: &Txn, of: u32) -> Result<Expected, NoMemory> {

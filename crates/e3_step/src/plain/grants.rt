@@ -1,11 +1,12 @@
 // Which requests a decision grants.
 ghost use Rattle.std.specs.Prelude.{◌≡◌, ◌<◌, ◌++◌, IfOk, length};
-ghost use Rattle.e3_world.specs.Making.{names_of, asked_on, granted_on, granted, grants_after};
+ghost use Rattle.e3_world.specs.Making.{names_of, asked_on, granted_on, granted, grants_after, log_now, steps_now};
+ghost use Rattle.e3_world.specs.Operations.{holders};
 
 use crate::plain::reading::{log_now, steps_now};
 use e3_locks::front;
 use e3_readings::{add_asked, add_name, copy_asked, first_asked, holders, key_of, queue, waiting};
-use e3_types::{List, Name, NoMemory};
+use e3_types::{List, Lock, Name, NoMemory};
 use e3_world::{Asked, At, Made};
 use std::alloc::Global;
 
@@ -33,6 +34,16 @@ pub fn asked_on(alloc: Global, name: &Name, asked: &[Asked]) -> Result<List<Aske
     Ok(out)
 }
 
+// The locks on a name that are held behind the step so far.
+fn holders_now(alloc: Global, a: &At, made: &Made, name: &Name) -> Result<List<Lock>, NoMemory>
+    requires { length a.now.life.steps < 4294967295 }
+    ensures { IfOk result (λ out. out ≡ holders a.now.site name.now (log_now a.now made.now) (steps_now a.now made.now)) }
+{
+    let log = log_now(alloc, a, made)?;
+    let steps = steps_now(alloc, a, made)?;
+    holders(alloc, a.site, name, log.as_slice(), steps.as_slice())
+}
+
 /// The requests on a name that are granted: the longest front of its queue that the other holders allow.
 pub fn granted_on(
     alloc: Global,
@@ -44,9 +55,7 @@ pub fn granted_on(
     requires { length a.now.life.steps < 4294967295 }
     ensures { IfOk result (λ out. out ≡ granted_on a.now made.now asked.now name.now) }
 {
-    let log = log_now(alloc, a, made)?;
-    let steps = steps_now(alloc, a, made)?;
-    let holders = holders(alloc, a.site, name, log.as_slice(), steps.as_slice())?;
+    let holders = holders_now(alloc, a, made, name)?;
     let here = asked_on(alloc, name, asked)?;
     let queue = queue(alloc, name, here.as_slice())?;
     let front = front(alloc, holders.as_slice(), queue.as_slice())?;

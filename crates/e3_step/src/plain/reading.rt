@@ -1,5 +1,5 @@
 // What a step reads of its site's past, each reading computed anew.
-ghost use Rattle.std.specs.Prelude.{◌≡◌, ◌<◌, IfOk, count_by, length};
+ghost use Rattle.std.specs.Prelude.{◌≡◌, ◌<◌, ◌++◌, ◌∷◌, [], IfOk, count_by, length};
 ghost use Rattle.std.specs.List.{list_any};
 ghost use Rattle.e3_types.specs.Same.{same_txn};
 ghost use Rattle.e3_step.specs.Asking.{lock_now, waits_now};
@@ -11,7 +11,7 @@ ghost use Rattle.e3_world.specs.Steps.{is_begin};
 
 use e3_locks::lock_grant;
 use e3_readings::{holders, key_of, lock_for, queue, waiting};
-use e3_types::{Answer, Copied, Grant, Input, List, Lock, NoMemory, Record, Txn};
+use e3_types::{Answer, Copied, Grant, Input, List, Lock, NoMemory, Packet, Record, Told, Txn};
 use e3_world::{Asked, At, Made, Moment};
 use std::alloc::Global;
 
@@ -24,40 +24,83 @@ pub fn log_now(alloc: Global, a: &At, made: &Made) -> Result<List<Record>, NoMem
     Ok(out)
 }
 
-fn copy_moment(alloc: Global, m: &Moment) -> Result<Moment, NoMemory>
-    ensures { IfOk result (λ x. x ≡ m.now) }
+// Adds copies of what a site had, recorded, sent and told to a moment.
+fn fill(
+    alloc: Global,
+    before: &[Record],
+    records: &[Record],
+    outs: &[Packet],
+    told: &[Told],
+    m: &mut Moment,
+) -> Result<(), NoMemory>
+    ensures { IfOk result (λ u. m.new ≡ record m.old {
+      before = m.old.before ++ before.now;
+      records = m.old.records ++ records.now;
+      outs = m.old.outs ++ outs.now;
+      told = m.old.told ++ told.now;
+    }) }
 {
-    Ok(Moment {
-        before: m.before.copied(alloc)?,
-        input: m.input.copy(),
-        records: m.records.copied(alloc)?,
-        outs: m.outs.copied(alloc)?,
-        told: m.told.copied(alloc)?,
-    })
+    m.before.add_copies(alloc, before)?;
+    m.records.add_copies(alloc, records)?;
+    m.outs.add_copies(alloc, outs)?;
+    m.told.add_copies(alloc, told)
 }
 
-fn copy_steps(alloc: Global, steps: &[Moment]) -> Result<List<Moment>, NoMemory>
-    ensures { IfOk result (λ out. out ≡ steps.now) }
+// Adds a moment of copies.
+fn add_moment(
+    alloc: Global,
+    before: &[Record],
+    input: &Input,
+    records: &[Record],
+    outs: &[Packet],
+    told: &[Told],
+    out: &mut List<Moment>,
+) -> Result<(), NoMemory>
+    ensures { IfOk result (λ u. out.new ≡ out.old ++ record { before = before.now; input = input.now; records = records.now; outs = outs.now; told = told.now } ∷ []) }
 {
-    let mut out = List::new(alloc);
+    let mut m = Moment {
+        before: List::new(alloc),
+        input: input.copy(),
+        records: List::new(alloc),
+        outs: List::new(alloc),
+        told: List::new(alloc),
+    };
+    fill(alloc, before, records, outs, told, &mut m)?;
+    out.push(m)
+}
+
+fn add_steps(alloc: Global, steps: &[Moment], out: &mut List<Moment>) -> Result<(), NoMemory>
+    ensures { IfOk result (λ u. out.new ≡ out.old ++ steps.now) }
+{
     for m in steps {
-        out.push(copy_moment(alloc, m)?)?;
+        add_moment(
+            alloc,
+            m.before.as_slice(),
+            &m.input,
+            m.records.as_slice(),
+            m.outs.as_slice(),
+            m.told.as_slice(),
+            out,
+        )?;
     }
-    Ok(out)
+    Ok(())
 }
 
 /// The steps of the incarnation with this one, as far as it is made.
 pub fn steps_now(alloc: Global, a: &At, made: &Made) -> Result<List<Moment>, NoMemory>
     ensures { IfOk result (λ out. out ≡ steps_now a.now made.now) }
 {
-    let mut out = copy_steps(alloc, a.life.steps.as_slice())?;
-    out.push(Moment {
-        before: a.life.log.copied(alloc)?,
-        input: a.input.copy(),
-        records: made.records.copied(alloc)?,
-        outs: made.outs.copied(alloc)?,
-        told: made.told.copied(alloc)?,
-    })?;
+    let mut out = List::new(alloc);
+    add_steps(alloc, a.life.steps.as_slice(), &mut out)?;
+    add_moment(
+        alloc,
+        a.life.log.as_slice(),
+        &a.input,
+        made.records.as_slice(),
+        made.outs.as_slice(),
+        made.told.as_slice(),
+        &mut out,
+    )?;
     Ok(out)
 }
 

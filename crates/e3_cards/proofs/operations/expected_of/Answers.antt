@@ -7,8 +7,8 @@ use Rattle.e3_cards.proofs.operations.expected_of.Goals as goal
 
 pub expect_by-e-requires : goal.expect_by-e-requires
 expect_by-e-requires c =
-    let cs = c.as_slice-c-items.result.now in
+    let cs = c.counted_of-c-items.result.now in
     let few = expected_are_few c.args.site (record { inc = 0; count = 0 }) (take c.loop-c.c-index cs) in
     let short : length (take c.loop-c.c-index cs) ≤ c.loop-c.c-index = grind (arith, common_steps) in
-    let all : length cs ≡ length c.args.card.now.counted = ap (λ (l : List Counted). length l) c.as_slice-c-items.ensures in
+    let all : length cs ≡ _ = ap (λ (l : List Counted). length l) c.counted_of-c-items.ensures in
     subst (λ (e : Expected). e.count < 4294967295) (sym c.loop-c.invariant) (omega (arith, few, short, c.loop-c-test.true, all, c.requires))

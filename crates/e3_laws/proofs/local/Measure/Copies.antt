@@ -4,7 +4,6 @@ use Rattle.std.specs.Prelude.{Contains}
 use Rattle.std.specs.List.{list_all, AllByRecursion as Each}
 use Rattle.std.proofs.lemmas.Bool.{and_parts}
 use Rattle.e3_types.specs.declared.entries.Entry.{Entry}
-use Rattle.e3_types.specs.declared.messages.Message.TheVariants as msg
 use Rattle.e3_types.specs.declared.messages.Packet.{Packet}
 use Rattle.e3_types.specs.declared.scenarios.Scenario.{Scenario}
 use Rattle.e3_types.specs.Ranks.{rank}

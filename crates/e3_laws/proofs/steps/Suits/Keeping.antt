@@ -2,7 +2,6 @@
 use Rattle.std.proofs.Common.{◌≡◌, ◌==◌, ℕ, Bool, true, false, List, refl, sym, subst, eqb-true, eq-eqb}
 use Rattle.std.specs.List.{AllByRecursion as Each}
 use Rattle.std.proofs.lemmas.Bool.{false_from_ne_true}
-use Rattle.e3_types.specs.declared.entries.Told.TheVariants as told
 use Rattle.e3_types.specs.declared.messages.Message.{Message}
 use Rattle.e3_types.specs.declared.messages.Packet.{Packet}
 use Rattle.e3_types.specs.declared.transactions.Txn.{Txn}

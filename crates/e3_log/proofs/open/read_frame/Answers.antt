@@ -1,6 +1,7 @@
 use Rattle.std.proofs.Common.{◌≡◌, ◌+◌, ℕ, List, get_or, take, drop, length, ap, ◌∙◌, arith, rules}
 use Rattle.std.specs.Int.{w32, to_be_bytes}
 use Rattle.e3_log.specs.Regions.{window}
+use Rattle.e3_log.proofs.Looking.{looks_alike, looks_then}
 use Rattle.e3_log.proofs.Reading.{short_is_damage, long_is_damage, frame_at}
 use Rattle.e3_log.proofs.Windows.{window_full}
 use Rattle.e3_log.proofs.open.read_frame.Goals as goal
@@ -37,3 +38,14 @@ returns-clause-next g c =
     let body : c.in_ok-body.body ≡ take c.from-size.result (drop (c.args.at + 5) w) =
     c.in_ok-body.ensures.body ∙ ap (λ (l : List ℕ). take c.from-size.result (drop (c.args.at + 5) (window c.args.span.from c.args.span.count l))) same in
     frame_at w c.args.at c.from-size.result _ gate size (omega arith) body (omega arith)
+
+pub returns-then-span-at-lt5-clause-looks : goal.returns-then-span-at-lt5-clause-looks
+returns-then-span-at-lt5-clause-looks g c = looks_alike (λ e. absurd cc) (λ e. absurd cc) c.in_ok-is_open.ensures.looks
+
+pub returns-then-span-at-clause-looks : goal.returns-then-span-at-clause-looks
+returns-then-span-at-clause-looks g c = looks_alike (λ e. absurd cc) (λ e. absurd cc)
+    (looks_then (λ e. absurd cc) c.in_ok-is_open.ensures.looks c.in_ok-read_size.ensures.looks)
+
+pub returns-clause-looks : goal.returns-clause-looks
+returns-clause-looks g c = looks_alike (λ e. absurd cc) (λ e. absurd cc)
+    (looks_then (λ e. absurd cc) (looks_then (λ e. absurd cc) c.in_ok-is_open.ensures.looks c.in_ok-read_size.ensures.looks) c.in_ok-body.ensures.looks)

@@ -3,6 +3,7 @@ use Rattle.std.specs.Int.{w32, to_be_bytes}
 use Rattle.e3_log.specs.Fronts.{told_by}
 use Rattle.e3_log.specs.Opening.{FrameAt}
 use Rattle.e3_log.specs.Regions.{window}
+use Rattle.e3_log.proofs.Looking.{looks_alike, looks_then}
 use Rattle.e3_log.proofs.Reading.{frame_at}
 use Rattle.e3_log.proofs.Windows.{window_full}
 use Rattle.e3_log.proofs.open.read_front.Goals as goal
@@ -27,3 +28,7 @@ returns-clause-front g c =
       fits = f.fits;
       tells = c.in_ok-told.ensures.told ∙ ap (λ (l : List ℕ). told_by (take n (drop 5 (window c.args.span.from c.args.span.count l)))) same;
     }
+
+pub returns-clause-looks : goal.returns-clause-looks
+returns-clause-looks g c = looks_alike (λ e. absurd cc) (λ e. absurd cc)
+    (looks_then (λ e. absurd cc) (looks_then (λ e. absurd cc) c.in_ok-is_open.ensures.looks c.in_ok-read_size.ensures.looks) c.in_ok-told.ensures.looks)

@@ -2,6 +2,7 @@ use Rattle.std.proofs.Common.{◌≡◌, ℕ, List, Err, ap, ◌∙◌, subst}
 use Rattle.std.specs.Prelude.{Result}
 use Rattle.e3_log.specs.declared.fault.OpenCause.{OpenCause}
 use Rattle.e3_log.specs.Reading.{DamagedAt}
+use Rattle.e3_log.proofs.Kept.{keeps_then}
 use Rattle.e3_log.proofs.prepare.prepare.Goals as goal
 
 -- errors that are one have one cause
@@ -15,3 +16,9 @@ returns-in-Err-clause-damaged g c = λ at is.
     c.capacity-capacity.ensures.value ∙ c.in_ok-len.ensures.meters.keeps.capacity ∙ c.in_ok-sync.ensures.meters.keeps.capacity in
     subst (λ (k : ℕ). DamagedAt k (g.D.Disk.meaning.content c.args.disk.now) at) room
     (subst (λ (l : List ℕ). DamagedAt c.capacity-capacity.result l at) same (c.in-Err.ensures.damaged at (ap (λ (e : OpenCause). Err e) (same_cause _ _ is))))
+
+pub returns-in-Ok-clause-keeps : goal.returns-in-Ok-clause-keeps
+returns-in-Ok-clause-keeps g c = keeps_then _ _ _ (keeps_then _ _ _ c.in_ok-sync.ensures.meters.keeps c.in_ok-len.ensures.meters.keeps) c.in-Ok.ensures.looks.keeps
+
+pub returns-in-Err-clause-keeps : goal.returns-in-Err-clause-keeps
+returns-in-Err-clause-keeps g c = keeps_then _ _ _ (keeps_then _ _ _ c.in_ok-sync.ensures.meters.keeps c.in_ok-len.ensures.meters.keeps) c.in-Err.ensures.looks.keeps

@@ -32,12 +32,12 @@ pub returns-clause-added : goal.returns-clause-added
 returns-clause-added g c = λ yes.
     let d = c.in_ok-draft.draft in
     let b : Batch = record c.args.batch.now { steps = c.reserve.new.steps } in
-    let is : IsLonger g.D.Disk.meaning.meters c.args.log.now b c.planned.new.site d c.in-Some.more =
-    subst (λ (r : Option Lengthened). IfSome r (IsLonger g.D.Disk.meaning.meters c.args.log.now b c.planned.new.site d)) c.in-Some.is c.in_ok-more.ensures.longer in
-    let claimed : c.longer.new.shared ≡ c.args.shared.now ++ mark.Place c.args.number (length d.plan.step.outs) ∷ [] =
-    subst (λ (r : Option Lengthened). IfSome r (λ _. c.longer.new.shared ≡ c.args.shared.now ++ mark.Place c.args.number (length d.plan.step.outs) ∷ [])) c.in-Some.is c.in_ok-more.ensures.claimed in
+    let is : IsLonger g.D.Disk.meaning.meters c.args.log.now b c.planned.new.site d c.in-Some.longer =
+    subst (λ (r : Option Lengthened). IfSome r (IsLonger g.D.Disk.meaning.meters c.args.log.now b c.planned.new.site d)) c.in-Some.is c.in_ok-longer.ensures.longer in
+    let claimed : c.one_more.new.shared ≡ c.args.shared.now ++ mark.Place c.args.number (length d.plan.step.outs) ∷ [] =
+    subst (λ (r : Option Lengthened). IfSome r (λ _. c.one_more.new.shared ≡ c.args.shared.now ++ mark.Place c.args.number (length d.plan.step.outs) ∷ [])) c.in-Some.is c.in_ok-longer.ensures.claimed in
     batch_added g.D.Disk.meaning.meters c.args.log.now g.at.scenario g.at.history g.at.site g.at.rose g.at.marks g.at.first g.at.done c.args.batch.now c.lengthen.new.batch c.args.site.now c.planned.new.site
-    c.apply.new.self c.args.shared.now c.longer.new.shared (length d.plan.step.outs) c.args.input.now d c.apply.result c.step_of-step.result c.in-Some.more.short c.requires.1.1.1.0 c.requires.1.1.1.1.1.0
+    c.apply.new.self c.args.shared.now c.one_more.new.shared (length d.plan.step.outs) c.args.input.now d c.apply.result c.step_of-step.result c.in-Some.longer.short c.requires.1.1.1.0 c.requires.1.1.1.1.1.0
     c.requires.1.1.1.1.1.1.0 c.in_ok-draft.ensures.ready c.planned.ensures.still c.apply.ensures.step c.apply.ensures.stand
     (ap (λ (v : SiteView). v.weights) c.apply.ensures.done) (ap (λ (v : SiteView). v.site) c.apply.ensures.done)
     (ap (λ (v : SiteView). v.inputs) c.apply.ensures.done)
@@ -49,33 +49,33 @@ returns-clause-added g c = λ yes.
     (ap (λ (b : Batch). b.short) c.lengthen.ensures)
     is.short is.has_body
     (λ l brief some none.
-    let D : ℕ → Type 0 = λ n. HasRoomUnlessShort g.D.Disk.meaning.meters c.args.log.now l c.in-Some.more.short n in
+    let D : ℕ → Type 0 = λ n. HasRoomUnlessShort g.D.Disk.meaning.meters c.args.log.now l c.in-Some.longer.short n in
     subst D (sym (ap (λ (b : Batch). length b.body) c.lengthen.ensures))
     (is.due l brief (λ empty. some (ap (λ (b : Batch). b.records) c.lengthen.ensures ∙ empty)) none))
     (claimed ∙ ap (λ (n : ℕ). c.args.shared.now ++ mark.Place n (length d.plan.step.outs) ∷ []) c.requires.1.1.0)
 
 pub returns-in_default-clause-full : goal.returns-in_default-clause-full
 returns-in_default-clause-full g c = λ no.
-    let is : c.in_ok-more.field-0 ≡ None = search rules in
-    let full = c.in_ok-more.ensures.full is in (
+    let is : c.in_ok-longer.field-0 ≡ None = search rules in
+    let full = c.in_ok-longer.ensures.full is in (
       batch_same g.D.Disk.meaning.meters c.args.log.now g.at.scenario g.at.history g.at.site g.at.rose g.at.marks g.at.first g.at.done c.args.batch.now
           (record c.args.batch.now { steps = c.reserve.new.steps }) c.args.site.now c.planned.new.site
-          c.args.shared.now c.longer.new.shared c.requires.1.1.1.0 c.reserve.ensures.items refl refl refl c.planned.ensures.still full.1,
+          c.args.shared.now c.one_more.new.shared c.requires.1.1.1.0 c.reserve.ensures.items refl refl refl c.planned.ensures.still full.1,
       no_more_room g.D.Disk.meaning.meters c.args.log.now g.at.scenario g.at.history g.at.site g.at.rose g.at.marks g.at.first g.at.done c.args.batch.now c.args.site.now c.planned.new.site
           c.args.shared.now c.args.input.now c.in_ok-draft.draft (c.args.batch.now.body ++ c.in_ok-draft.draft.body) c.requires.1.1.1.0 c.requires.1.1.1.1.1.0 c.in_ok-draft.ensures.ready
           refl full.0.0 full.0.1 full.0.2,
     )
 
 pub returns-clause-most : goal.returns-clause-most
-returns-clause-most g c = ap most_of (subst (λ (r : Option Lengthened). IfSome r (λ _. c.longer.new.shared ≡ c.args.shared.now ++ mark.Place c.args.number (length c.in_ok-draft.draft.plan.step.outs) ∷ [])) c.in-Some.is c.in_ok-more.ensures.claimed) ∙ most_push c.args.shared.now c.args.number (length c.in_ok-draft.draft.plan.step.outs)
+returns-clause-most g c = ap most_of (subst (λ (r : Option Lengthened). IfSome r (λ _. c.one_more.new.shared ≡ c.args.shared.now ++ mark.Place c.args.number (length c.in_ok-draft.draft.plan.step.outs) ∷ [])) c.in-Some.is c.in_ok-longer.ensures.claimed) ∙ most_push c.args.shared.now c.args.number (length c.in_ok-draft.draft.plan.step.outs)
 
 pub returns-clause-used : goal.returns-clause-used
 returns-clause-used g c =
-    let more : used_of c.longer.new.shared ≡ used_of c.args.shared.now + 1 = ap used_of (subst (λ (r : Option Lengthened). IfSome r (λ _. c.longer.new.shared ≡ c.args.shared.now ++ mark.Place c.args.number (length c.in_ok-draft.draft.plan.step.outs) ∷ [])) c.in-Some.is c.in_ok-more.ensures.claimed) ∙ used_push c.args.shared.now c.args.number (length c.in_ok-draft.draft.plan.step.outs) c.requires.1.0 in
+    let more : used_of c.one_more.new.shared ≡ used_of c.args.shared.now + 1 = ap used_of (subst (λ (r : Option Lengthened). IfSome r (λ _. c.one_more.new.shared ≡ c.args.shared.now ++ mark.Place c.args.number (length c.in_ok-draft.draft.plan.step.outs) ∷ [])) c.in-Some.is c.in_ok-longer.ensures.claimed) ∙ used_push c.args.shared.now c.args.number (length c.in_ok-draft.draft.plan.step.outs) c.requires.1.0 in
     omega (arith, more)
 
 pub returns-clause-owners : goal.returns-clause-owners
-returns-clause-owners g c = ap last_owner (subst (λ (r : Option Lengthened). IfSome r (λ _. c.longer.new.shared ≡ c.args.shared.now ++ mark.Place c.args.number (length c.in_ok-draft.draft.plan.step.outs) ∷ [])) c.in-Some.is c.in_ok-more.ensures.claimed) ∙ owners_push c.args.shared.now c.args.number (length c.in_ok-draft.draft.plan.step.outs)
+returns-clause-owners g c = ap last_owner (subst (λ (r : Option Lengthened). IfSome r (λ _. c.one_more.new.shared ≡ c.args.shared.now ++ mark.Place c.args.number (length c.in_ok-draft.draft.plan.step.outs) ∷ [])) c.in-Some.is c.in_ok-longer.ensures.claimed) ∙ owners_push c.args.shared.now c.args.number (length c.in_ok-draft.draft.plan.step.outs)
 
 pub returns-in_err-reserve-clause-kept : goal.returns-in_err-reserve-clause-kept
 returns-in_err-reserve-clause-kept g c =
@@ -89,8 +89,8 @@ returns-in_err-draft-clause-kept g c =
     (batch_same g.D.Disk.meaning.meters c.args.log.now g.at.scenario g.at.history g.at.site g.at.rose g.at.marks g.at.first g.at.done c.args.batch.now (record c.args.batch.now { steps = c.reserve.new.steps }) c.args.site.now c.planned.new.site
     c.args.shared.now c.args.shared.now c.requires.1.1.1.0 c.reserve.ensures.items refl refl refl c.planned.ensures.still refl)
 
-pub returns-in_err-more-clause-kept : goal.returns-in_err-more-clause-kept
-returns-in_err-more-clause-kept g c =
-    err_so c.from_residual-in_err-more.result _
+pub returns-in_err-longer-clause-kept : goal.returns-in_err-longer-clause-kept
+returns-in_err-longer-clause-kept g c =
+    err_so c.from_residual-in_err-longer.result _
     (batch_same g.D.Disk.meaning.meters c.args.log.now g.at.scenario g.at.history g.at.site g.at.rose g.at.marks g.at.first g.at.done c.args.batch.now (record c.args.batch.now { steps = c.reserve.new.steps }) c.args.site.now c.planned.new.site
-    c.args.shared.now c.longer.new.shared c.requires.1.1.1.0 c.reserve.ensures.items refl refl refl c.planned.ensures.still c.in_err-more.ensures.kept)
+    c.args.shared.now c.one_more.new.shared c.requires.1.1.1.0 c.reserve.ensures.items refl refl refl c.planned.ensures.still c.in_err-longer.ensures.kept)

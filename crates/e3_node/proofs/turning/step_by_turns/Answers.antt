@@ -5,6 +5,7 @@ use Rattle.e3_node.specs.Bodies.{DiskTells, entries_at}
 use Rattle.e3_node.specs.Ends.{IsOneFrame}
 use Rattle.e3_node.specs.NodeStands.{IsUp, StandsBy}
 use Rattle.e3_node.specs.Turns.{IsStill, history_seen, scenario_seen}
+use Rattle.e3_node.specs.declared.fault.InputFault.TheVariants as input_fault
 use Rattle.e3_node.specs.declared.state.State.TheVariants.{Up}
 use Rattle.e3_site.specs.SiteView.{SiteView, count_on, entry_of_plan, step_kept}
 use Rattle.e3_node.specs.site_log.Ends.{HasRoom, HasRoomUnlessShort, IsReason, Takes, calls_for, size_of}
@@ -25,11 +26,11 @@ use Rattle.e3_world.specs.declared.lives.SiteStep.{SiteStep}
 use Rattle.e3_node.proofs.Counts.{claimed_entry, may_turn}
 use Rattle.e3_node.proofs.Framing.{one_frame}
 use Rattle.e3_node.proofs.Orders.{log_in_order}
-use Rattle.e3_node.proofs.Places.{entered_back, looked_back, still_back}
+use Rattle.e3_node.proofs.Places.{entered_back, still_back}
 use Rattle.e3_node.proofs.Sharing.{fall_used, step_used, under}
 use Rattle.e3_node.proofs.Steps.{draft_made, fall_allowed, fall_entered, fall_takes, fallen_tells, inputs_on, own_are_few, own_stands, records_made, site_on, step_allowed, step_entered, step_logged, stepped_up}
-use Rattle.e3_node.proofs.InputsByTurns.{refused}
-use Rattle.e3_node.proofs.Waiting.{behind_of, entered_turn, entries, keys_stay, looked, made_meanwhile, may_commit, meanwhile, still_owns, still_restless, still_up, up_meanwhile}
+use Rattle.e3_node.proofs.InputsByTurns.{no_room, refuses}
+use Rattle.e3_node.proofs.Waiting.{behind_of, entered_turn, entries, keys_stay, made_meanwhile, may_commit, meanwhile, still_owns, still_restless, still_up, up_meanwhile}
 use Rattle.e3_node.proofs.Written.{Follows, follows_while, step_follows, up_brief}
 use Rattle.e3_node.proofs.turning.step_by_turns.Goals as goal
 
@@ -47,61 +48,60 @@ pub write-requires-clause-may : goal.write-requires-clause-may
 write-requires-clause-may g c =
     let p = c.args.pass.now in
     let h = history_seen p in
-    let cl = c.in_ok-claim.ensures.claimed in
+    let cl = c.in_ok-short.ensures.claimed in
     may_turn g.D.Disk.meaning h c.args.number (log_of (scenario_seen p) h c.args.number) c.args.logged.now c.args.log.now c.in_ok-short.short c.requires.up.logged
-    (claimed_entry p c.args.number cl.0 c.requires.turns.owns cl.1 cl.5 (λ all. (let full = cl.4.1 all in cc))) c.in_ok-short.ensures.body
+    (claimed_entry p c.args.number cl.between c.requires.turns.owns cl.grew cl.played (λ all. cl.left all)) c.in_ok-short.ensures.body
 
 pub commit_entry-requires-clause-owns : goal.commit_entry-requires-clause-owns
 commit_entry-requires-clause-owns g c =
     let p = c.args.pass.now in
-    let q = c.claim.new.pass in
-    subst (λ (y : Entry). Owns q y.owner) (sym c.step_of-step.ensures) (still_owns p q c.args.number c.claim.ensures.same c.requires.turns.owns)
+    let q = c.make_room_by_turns.new.pass in
+    subst (λ (y : Entry). Owns q y.owner) (sym c.step_of-step.ensures) (still_owns p q c.args.number c.in_ok-short.ensures.same c.requires.turns.owns)
 
 pub commit_entry-requires-clause-may : goal.commit_entry-requires-clause-may
 commit_entry-requires-clause-may g c =
     let p = c.args.pass.now in
-    let q = c.claim.new.pass in
+    let q = c.make_room_by_turns.new.pass in
     let sc = scenario_seen p in
     let h = history_seen p in
     let d = c.in_ok-draft.draft in
     let made = draft_made sc h c.args.number c.args.site.now _ c.args.input d c.requires.up.stands c.in_ok-draft.ensures.ready in
     let due = taken_is_due sc h c.args.number c.args.input c.requires.turns.restless c.requires.due c.requires.takes in
-    let cl = c.in_ok-claim.ensures.claimed in
+    let cl = c.in_ok-short.ensures.claimed in
     let step : SiteStep = c.apply.result in
     let is : step ≡ step_kept c.args.input (made_by sc h c.args.number c.args.input) = c.apply.ensures.step ∙ made.step_is in
     let e : Entry = entry_of_plan c.args.number c.args.input step in
     let allows = step_allowed sc h c.args.number c.args.input step is c.requires.turns.some c.requires.up.up due in
-    let fits : length step.outs ≡ c.room_for-room.result =
-    ap (λ (p : SiteStep). length p.outs) c.apply.ensures.step ∙ sym (c.room_for-room.ensures ∙ ap length c.outs.ensures) in
+    let fits : length step.outs ≡ length d.plan.step.outs = ap (λ (p : SiteStep). length p.outs) c.apply.ensures.step in
     let may : MayEnterBehind (seen_by q) e =
-    may_commit p (seen_by q) _ e cl.0 c.requires.turns.owns cl.1 cl.5 cl.2 c.requires.turns.played c.claim.ensures.played c.requires.turns.some c.requires.turns.exists c.requires.turns.restless allows
+    may_commit p (seen_by q) _ e cl.between c.requires.turns.owns cl.grew cl.played cl.is c.requires.turns.played c.in_ok-short.ensures.played c.requires.turns.some c.requires.turns.exists c.requires.turns.restless allows
     c.requires.takes (omega (arith, fits)) in
     subst (λ (y : Entry). MayEnterBehind (seen_by q) y) (sym c.step_of-step.ensures) may
 
 pub commit_entry-requires-clause-alone : goal.commit_entry-requires-clause-alone
 commit_entry-requires-clause-alone g c = λ calm.
     let p = c.args.pass.now in
-    let q = c.claim.new.pass in
-    let cl = c.in_ok-claim.ensures.claimed in
-    let restless = still_restless p (seen_by q) cl.0 c.args.number _ c.requires.turns.owns cl.1 cl.5 cl.2 c.requires.turns.played c.claim.ensures.played c.requires.turns.restless in
+    let q = c.make_room_by_turns.new.pass in
+    let cl = c.in_ok-short.ensures.claimed in
+    let restless = still_restless p (seen_by q) cl.between c.args.number _ c.requires.turns.owns cl.grew cl.played cl.is c.requires.turns.played c.in_ok-short.ensures.played c.requires.turns.restless in
     absurd (let both = sym calm ∙ restless in cc)
 
 pub commit_entry-requires-in-Err-clause-owns : goal.commit_entry-requires-in-Err-clause-owns
 commit_entry-requires-in-Err-clause-owns g c =
     let p = c.args.pass.now in
-    let q = c.claim.new.pass in
-    subst (λ (y : Entry). Owns q y.owner) (sym c.fall_of-fall.ensures) (still_owns p q c.args.number c.claim.ensures.same c.requires.turns.owns)
+    let q = c.make_room_by_turns.new.pass in
+    subst (λ (y : Entry). Owns q y.owner) (sym c.fall_of-fall.ensures) (still_owns p q c.args.number c.in_ok-short.ensures.same c.requires.turns.owns)
 
 pub commit_entry-requires-in-Err-clause-may : goal.commit_entry-requires-in-Err-clause-may
 commit_entry-requires-in-Err-clause-may g c =
     let p = c.args.pass.now in
-    let q = c.claim.new.pass in
+    let q = c.make_room_by_turns.new.pass in
     let sc = scenario_seen p in
     let h = history_seen p in
     let d = c.in_ok-draft.draft in
     let made = draft_made sc h c.args.number c.args.site.now _ c.args.input d c.requires.up.stands c.in_ok-draft.ensures.ready in
     let due = taken_is_due sc h c.args.number c.args.input c.requires.turns.restless c.requires.due c.requires.takes in
-    let cl = c.in_ok-claim.ensures.claimed in
+    let cl = c.in_ok-short.ensures.claimed in
     let records : List Record = c.into_step-made.result.records in
     let rs : records ≡ (made_by sc h c.args.number c.args.input).records =
     records_made sc h c.args.number c.args.input c.into_step-made.result (c.into_step-made.ensures ∙ made.step_is) in
@@ -109,66 +109,65 @@ commit_entry-requires-in-Err-clause-may g c =
     let allows = fall_allowed sc h c.args.number c.args.input d.inputs records c.in-Err.why made.inputs_are rs c.requires.turns.some c.requires.up.up due
     (λ none. c.in-Err.ensures.some (c.records-records.ensures ∙ records_made sc h c.args.number c.args.input d.plan.step made.step_is ∙ sym rs ∙ none)) in
     let may : MayEnterBehind (seen_by q) e =
-    may_commit p (seen_by q) _ e cl.0 c.requires.turns.owns cl.1 cl.5 cl.2 c.requires.turns.played c.claim.ensures.played c.requires.turns.some c.requires.turns.exists c.requires.turns.restless allows
+    may_commit p (seen_by q) _ e cl.between c.requires.turns.owns cl.grew cl.played cl.is c.requires.turns.played c.in_ok-short.ensures.played c.requires.turns.some c.requires.turns.exists c.requires.turns.restless allows
     (fall_takes sc h c.args.number c.args.input d.inputs made.inputs_are c.requires.takes) (omega arith) in
     subst (λ (y : Entry). MayEnterBehind (seen_by q) y) (sym c.fall_of-fall.ensures) may
 
 pub commit_entry-requires-in-Err-clause-alone : goal.commit_entry-requires-in-Err-clause-alone
 commit_entry-requires-in-Err-clause-alone g c = λ calm.
     let p = c.args.pass.now in
-    let q = c.claim.new.pass in
-    let cl = c.in_ok-claim.ensures.claimed in
-    let restless = still_restless p (seen_by q) cl.0 c.args.number _ c.requires.turns.owns cl.1 cl.5 cl.2 c.requires.turns.played c.claim.ensures.played c.requires.turns.restless in
+    let q = c.make_room_by_turns.new.pass in
+    let cl = c.in_ok-short.ensures.claimed in
+    let restless = still_restless p (seen_by q) cl.between c.args.number _ c.requires.turns.owns cl.grew cl.played cl.is c.requires.turns.played c.in_ok-short.ensures.played c.requires.turns.restless in
     absurd (let both = sym calm ∙ restless in cc)
 
 pub returns-in-Ok-clause-turned : goal.returns-in-Ok-clause-turned
 returns-in-Ok-clause-turned g c =
     let p = c.args.pass.now in
-    let q = c.claim.new.pass in
+    let q = c.make_room_by_turns.new.pass in
     let sc = scenario_seen p in
     let h = history_seen p in
     let d = c.in_ok-draft.draft in
     let made = draft_made sc h c.args.number c.args.site.now _ c.args.input d c.requires.up.stands c.in_ok-draft.ensures.ready in
     let due = taken_is_due sc h c.args.number c.args.input c.requires.turns.restless c.requires.due c.requires.takes in
-    let cl = c.in_ok-claim.ensures.claimed in
+    let cl = c.in_ok-short.ensures.claimed in
     let step : SiteStep = c.apply.result in
     let is : step ≡ step_kept c.args.input (made_by sc h c.args.number c.args.input) = c.apply.ensures.step ∙ made.step_is in
     let e : Entry = entry_of_plan c.args.number c.args.input step in
-    let fits : length step.outs ≡ c.room_for-room.result =
-    ap (λ (p : SiteStep). length p.outs) c.apply.ensures.step ∙ sym (c.room_for-room.ensures ∙ ap length c.outs.ensures) in
+    let fits : length step.outs ≡ length d.plan.step.outs = ap (λ (p : SiteStep). length p.outs) c.apply.ensures.step in
     let allows = step_allowed sc h c.args.number c.args.input step is c.requires.turns.some c.requires.up.up due in
     let r = c.commit_entry.new.pass in
     let P : Entry → Type 0 = λ y. (later : List Mark) × GrewByOthers belongs q later × (seen_by r ≡ later ++ mark.Entered (numbered_on (entries_of later) y) ∷ []) × IsPlayed later in
     let ent : P e = subst P c.step_of-step.ensures c.commit_entry.ensures.entered in
-    let owns = still_owns p q c.args.number c.claim.ensures.same c.requires.turns.owns in
-    let b = behind_of p q r c.args.number _ e c.requires.turns.owns owns cl.0 cl.1 cl.2 ent.0 ent.1 ent.2 cl.5 ent.3 in
-    entered_turn c.args.wire.now p q r c.args.number _ e ent.0 b refl c.requires.turns.played c.claim.ensures.played c.commit_entry.ensures.played c.requires.turns.some sc h allows tt
+    let owns = still_owns p q c.args.number c.in_ok-short.ensures.same c.requires.turns.owns in
+    let b = behind_of p q r c.args.number _ e c.requires.turns.owns owns cl.between cl.grew cl.is ent.0 ent.1 ent.2 cl.played ent.3 in
+    entered_turn c.args.wire.now p q r c.args.number _ e ent.0 b refl c.requires.turns.played c.in_ok-short.ensures.played c.commit_entry.ensures.played c.requires.turns.some sc h allows tt
     (step_used _ c.args.input step.records step.outs step.told (sym fits))
-    c.commit_entry.ensures.idle c.claim.ensures.same c.commit_entry.ensures.same
+    c.commit_entry.ensures.idle c.in_ok-short.ensures.same c.commit_entry.ensures.same
 
 pub returns-in-Ok-clause-none_back : goal.returns-in-Ok-clause-none_back
 returns-in-Ok-clause-none_back g c =
     let p = c.args.pass.now in
-    let q = c.claim.new.pass in
+    let q = c.make_room_by_turns.new.pass in
     let r = c.commit_entry.new.pass in
-    let cl = c.in_ok-claim.ensures.claimed in
+    let cl = c.in_ok-short.ensures.claimed in
     let e : Entry = entry_of_plan c.args.number c.args.input c.apply.result in
     let P : Entry → Type 0 = λ y. (later : List Mark) × GrewByOthers belongs q later × (seen_by r ≡ later ++ mark.Entered (numbered_on (entries_of later) y) ∷ []) × IsPlayed later in
     let ent : P e = subst P c.step_of-step.ensures c.commit_entry.ensures.entered in
-    let owns = still_owns p q c.args.number c.claim.ensures.same c.requires.turns.owns in
-    let b = behind_of p q r c.args.number _ e c.requires.turns.owns owns cl.0 cl.1 cl.2 ent.0 ent.1 ent.2 cl.5 ent.3 in
+    let owns = still_owns p q c.args.number c.in_ok-short.ensures.same c.requires.turns.owns in
+    let b = behind_of p q r c.args.number _ e c.requires.turns.owns owns cl.between cl.grew cl.is ent.0 ent.1 ent.2 cl.played ent.3 in
     entered_back c.args.number _ (seen_by p) (seen_by q) ent.0 (seen_by r) e b (omega arith)
 
 pub returns-in-Ok-clause-ended : goal.returns-in-Ok-clause-ended
 returns-in-Ok-clause-ended g c =
     let p = c.args.pass.now in
-    let q = c.claim.new.pass in
+    let q = c.make_room_by_turns.new.pass in
     let sc = scenario_seen p in
     let h = history_seen p in
     let d = c.in_ok-draft.draft in
     let made = draft_made sc h c.args.number c.args.site.now _ c.args.input d c.requires.up.stands c.in_ok-draft.ensures.ready in
     let due = taken_is_due sc h c.args.number c.args.input c.requires.turns.restless c.requires.due c.requires.takes in
-    let cl = c.in_ok-claim.ensures.claimed in
+    let cl = c.in_ok-short.ensures.claimed in
     let step : SiteStep = c.apply.result in
     let is : step ≡ step_kept c.args.input (made_by sc h c.args.number c.args.input) = c.apply.ensures.step ∙ made.step_is in
     let e : Entry = entry_of_plan c.args.number c.args.input step in
@@ -176,23 +175,22 @@ returns-in-Ok-clause-ended g c =
     let r = c.commit_entry.new.pass in
     let P : Entry → Type 0 = λ y. (later : List Mark) × GrewByOthers belongs q later × (seen_by r ≡ later ++ mark.Entered (numbered_on (entries_of later) y) ∷ []) × IsPlayed later in
     let ent : P e = subst P c.step_of-step.ensures c.commit_entry.ensures.entered in
-    let owns = still_owns p q c.args.number c.claim.ensures.same c.requires.turns.owns in
-    let b = behind_of p q r c.args.number _ e c.requires.turns.owns owns cl.0 cl.1 cl.2 ent.0 ent.1 ent.2 cl.5 ent.3 in
+    let owns = still_owns p q c.args.number c.in_ok-short.ensures.same c.requires.turns.owns in
+    let b = behind_of p q r c.args.number _ e c.requires.turns.owns owns cl.between cl.grew cl.is ent.0 ent.1 ent.2 cl.played ent.3 in
     let now = entries_of ent.0 in
-    let m = meanwhile c.args.number _ (seen_by p) (seen_by q) ent.0 (seen_by r) e b refl c.requires.turns.played c.claim.ensures.played c.commit_entry.ensures.played in
+    let m = meanwhile c.args.number _ (seen_by p) (seen_by q) ent.0 (seen_by r) e b refl c.requires.turns.played c.in_ok-short.ensures.played c.commit_entry.ensures.played in
     let up : IsUp g.D.Disk.meaning sc now c.args.number c.args.site.now c.args.log.now c.args.rose.now c.args.logged.now =
     up_meanwhile g.D.Disk.meaning sc h now c.args.number (Up c.args.site.now c.args.log.now c.args.rose.now c.args.logged.now) m c.requires.up in
     let here = made_meanwhile sc h now c.args.number c.args.input d m made in
-    let all = entries c.args.number _ (seen_by p) (seen_by q) ent.0 (seen_by r) e b refl c.requires.turns.played c.claim.ensures.played c.commit_entry.ensures.played in
+    let all = entries c.args.number _ (seen_by p) (seen_by q) ent.0 (seen_by r) e b refl c.requires.turns.played c.in_ok-short.ensures.played c.commit_entry.ensures.played in
     let more = history_seen r in
     let entered = step_entered sc now more c.args.number c.args.input step (c.apply.ensures.step ∙ here.step_is) all in
     let ready : StandsBy sc now c.args.number c.args.rose.now c.prepare_by_turns.new.site =
     record { alike = c.in_ok-draft.ensures.still.stands sc now c.args.number c.args.rose.now up.stands.alike; risen = up.stands.risen; order = up.stands.order } in
-    let fits : length step.outs ≡ c.room_for-room.result =
-    ap (λ (p : SiteStep). length p.outs) c.apply.ensures.step ∙ sym (c.room_for-room.ensures ∙ ap length c.outs.ensures) in
-    let turned = entered_turn c.args.wire.now p q r c.args.number _ e ent.0 b refl c.requires.turns.played c.claim.ensures.played c.commit_entry.ensures.played c.requires.turns.some sc h allows tt
+    let fits : length step.outs ≡ length d.plan.step.outs = ap (λ (p : SiteStep). length p.outs) c.apply.ensures.step in
+    let turned = entered_turn c.args.wire.now p q r c.args.number _ e ent.0 b refl c.requires.turns.played c.in_ok-short.ensures.played c.commit_entry.ensures.played c.requires.turns.some sc h allows tt
     (step_used _ c.args.input step.records step.outs step.told (sym fits))
-    c.commit_entry.ensures.idle c.claim.ensures.same c.commit_entry.ensures.same in
+    c.commit_entry.ensures.idle c.in_ok-short.ensures.same c.commit_entry.ensures.same in
     let keys = (keys_stay p r c.requires.turns.played turned.turned.seen).0 in
     let order : IsLogInOrder c.args.number (log_of sc (now ++ entry_of sc now c.args.number c.args.input ∷ []) c.args.number) =
     subst (λ (l : List Entry). IsLogInOrder c.args.number (log_of sc l c.args.number)) entered
@@ -227,13 +225,13 @@ returns-in-Ok-clause-ended g c =
 pub returns-in-Err-clause-turned : goal.returns-in-Err-clause-turned
 returns-in-Err-clause-turned g c =
     let p = c.args.pass.now in
-    let q = c.claim.new.pass in
+    let q = c.make_room_by_turns.new.pass in
     let sc = scenario_seen p in
     let h = history_seen p in
     let d = c.in_ok-draft.draft in
     let made = draft_made sc h c.args.number c.args.site.now _ c.args.input d c.requires.up.stands c.in_ok-draft.ensures.ready in
     let due = taken_is_due sc h c.args.number c.args.input c.requires.turns.restless c.requires.due c.requires.takes in
-    let cl = c.in_ok-claim.ensures.claimed in
+    let cl = c.in_ok-short.ensures.claimed in
     let records : List Record = c.into_step-made.result.records in
     let rs : records ≡ (made_by sc h c.args.number c.args.input).records =
     records_made sc h c.args.number c.args.input c.into_step-made.result (c.into_step-made.ensures ∙ made.step_is) in
@@ -243,40 +241,40 @@ returns-in-Err-clause-turned g c =
     let r = c.commit_entry-in-Err.new.pass in
     let P : Entry → Type 0 = λ y. (later : List Mark) × GrewByOthers belongs q later × (seen_by r ≡ later ++ mark.Entered (numbered_on (entries_of later) y) ∷ []) × IsPlayed later in
     let ent : P e = subst P c.fall_of-fall.ensures c.commit_entry-in-Err.ensures.entered in
-    let owns = still_owns p q c.args.number c.claim.ensures.same c.requires.turns.owns in
-    let b = behind_of p q r c.args.number _ e c.requires.turns.owns owns cl.0 cl.1 cl.2 ent.0 ent.1 ent.2 cl.5 ent.3 in
-    entered_turn c.args.wire.now p q r c.args.number _ e ent.0 b refl c.requires.turns.played c.claim.ensures.played c.commit_entry-in-Err.ensures.played c.requires.turns.some sc h allows (ap length made.inputs_are)
-    (fall_used c.room_for-room.result d.inputs records c.in-Err.why (ap length made.inputs_are))
-    c.commit_entry-in-Err.ensures.idle c.claim.ensures.same c.commit_entry-in-Err.ensures.same
+    let owns = still_owns p q c.args.number c.in_ok-short.ensures.same c.requires.turns.owns in
+    let b = behind_of p q r c.args.number _ e c.requires.turns.owns owns cl.between cl.grew cl.is ent.0 ent.1 ent.2 cl.played ent.3 in
+    entered_turn c.args.wire.now p q r c.args.number _ e ent.0 b refl c.requires.turns.played c.in_ok-short.ensures.played c.commit_entry-in-Err.ensures.played c.requires.turns.some sc h allows (ap length made.inputs_are)
+    (fall_used (length d.plan.step.outs) d.inputs records c.in-Err.why (ap length made.inputs_are))
+    c.commit_entry-in-Err.ensures.idle c.in_ok-short.ensures.same c.commit_entry-in-Err.ensures.same
 
 pub returns-in-Err-clause-none_back : goal.returns-in-Err-clause-none_back
 returns-in-Err-clause-none_back g c =
     let p = c.args.pass.now in
-    let q = c.claim.new.pass in
+    let q = c.make_room_by_turns.new.pass in
     let r = c.commit_entry-in-Err.new.pass in
     let sc = scenario_seen p in
     let h = history_seen p in
     let d = c.in_ok-draft.draft in
     let made = draft_made sc h c.args.number c.args.site.now _ c.args.input d c.requires.up.stands c.in_ok-draft.ensures.ready in
-    let cl = c.in_ok-claim.ensures.claimed in
+    let cl = c.in_ok-short.ensures.claimed in
     let e : Entry = record { owner = c.args.number; act = Fall d.inputs c.into_step-made.result.records c.in-Err.why } in
     let P : Entry → Type 0 = λ y. (later : List Mark) × GrewByOthers belongs q later × (seen_by r ≡ later ++ mark.Entered (numbered_on (entries_of later) y) ∷ []) × IsPlayed later in
     let ent : P e = subst P c.fall_of-fall.ensures c.commit_entry-in-Err.ensures.entered in
-    let owns = still_owns p q c.args.number c.claim.ensures.same c.requires.turns.owns in
-    let b = behind_of p q r c.args.number _ e c.requires.turns.owns owns cl.0 cl.1 cl.2 ent.0 ent.1 ent.2 cl.5 ent.3 in
+    let owns = still_owns p q c.args.number c.in_ok-short.ensures.same c.requires.turns.owns in
+    let b = behind_of p q r c.args.number _ e c.requires.turns.owns owns cl.between cl.grew cl.is ent.0 ent.1 ent.2 cl.played ent.3 in
     let one : length d.inputs ≡ 1 = ap length made.inputs_are in
     entered_back c.args.number _ (seen_by p) (seen_by q) ent.0 (seen_by r) e b (omega (arith, one))
 
 pub returns-in-Err-clause-ended : goal.returns-in-Err-clause-ended
 returns-in-Err-clause-ended g c =
     let p = c.args.pass.now in
-    let q = c.claim.new.pass in
+    let q = c.make_room_by_turns.new.pass in
     let sc = scenario_seen p in
     let h = history_seen p in
     let d = c.in_ok-draft.draft in
     let made = draft_made sc h c.args.number c.args.site.now _ c.args.input d c.requires.up.stands c.in_ok-draft.ensures.ready in
     let due = taken_is_due sc h c.args.number c.args.input c.requires.turns.restless c.requires.due c.requires.takes in
-    let cl = c.in_ok-claim.ensures.claimed in
+    let cl = c.in_ok-short.ensures.claimed in
     let records : List Record = c.into_step-made.result.records in
     let rs : records ≡ (made_by sc h c.args.number c.args.input).records =
     records_made sc h c.args.number c.args.input c.into_step-made.result (c.into_step-made.ensures ∙ made.step_is) in
@@ -286,14 +284,14 @@ returns-in-Err-clause-ended g c =
     let r = c.commit_entry-in-Err.new.pass in
     let P : Entry → Type 0 = λ y. (later : List Mark) × GrewByOthers belongs q later × (seen_by r ≡ later ++ mark.Entered (numbered_on (entries_of later) y) ∷ []) × IsPlayed later in
     let ent : P e = subst P c.fall_of-fall.ensures c.commit_entry-in-Err.ensures.entered in
-    let owns = still_owns p q c.args.number c.claim.ensures.same c.requires.turns.owns in
-    let b = behind_of p q r c.args.number _ e c.requires.turns.owns owns cl.0 cl.1 cl.2 ent.0 ent.1 ent.2 cl.5 ent.3 in
+    let owns = still_owns p q c.args.number c.in_ok-short.ensures.same c.requires.turns.owns in
+    let b = behind_of p q r c.args.number _ e c.requires.turns.owns owns cl.between cl.grew cl.is ent.0 ent.1 ent.2 cl.played ent.3 in
     let now = entries_of ent.0 in
-    let m = meanwhile c.args.number _ (seen_by p) (seen_by q) ent.0 (seen_by r) e b refl c.requires.turns.played c.claim.ensures.played c.commit_entry-in-Err.ensures.played in
+    let m = meanwhile c.args.number _ (seen_by p) (seen_by q) ent.0 (seen_by r) e b refl c.requires.turns.played c.in_ok-short.ensures.played c.commit_entry-in-Err.ensures.played in
     let up : IsUp g.D.Disk.meaning sc now c.args.number c.args.site.now c.args.log.now c.args.rose.now c.args.logged.now =
     up_meanwhile g.D.Disk.meaning sc h now c.args.number (Up c.args.site.now c.args.log.now c.args.rose.now c.args.logged.now) m c.requires.up in
     let here = made_meanwhile sc h now c.args.number c.args.input d m made in
-    let all = entries c.args.number _ (seen_by p) (seen_by q) ent.0 (seen_by r) e b refl c.requires.turns.played c.claim.ensures.played c.commit_entry-in-Err.ensures.played in
+    let all = entries c.args.number _ (seen_by p) (seen_by q) ent.0 (seen_by r) e b refl c.requires.turns.played c.in_ok-short.ensures.played c.commit_entry-in-Err.ensures.played in
     let more = history_seen r in
     let there = records_made sc now c.args.number c.args.input c.into_step-made.result (c.into_step-made.ensures ∙ here.step_is) in
     let entered = fall_entered sc now more c.args.number c.args.input d.inputs records c.in-Err.why here.inputs_are there all in
@@ -318,35 +316,34 @@ returns-in-Err-clause-ended g c =
           (c.in-Err.ensures.left c.args.number (entries_at now c.args.number) (log_of sc now c.args.number) up.logged follows.short follows.orderly follows.back));
     }
 
-pub returns-in_err-claim-clause-turned : goal.returns-in_err-claim-clause-turned
-returns-in_err-claim-clause-turned g c =
-    let p = c.args.pass.now in
-    let q = c.claim.new.pass in
-    let cl = c.in_err-claim.ensures.claimed in
-    (looked c.args.wire.now p q c.args.number cl.0 c.requires.turns.owns c.requires.turns.played c.claim.ensures.played c.claim.ensures.idle c.claim.ensures.same cl.1 cl.3).0
-
-pub returns-in_err-claim-clause-none_back : goal.returns-in_err-claim-clause-none_back
-returns-in_err-claim-clause-none_back g c =
-    let cl = c.in_err-claim.ensures.claimed in
-    looked_back c.args.pass.now c.claim.new.pass c.args.number cl.0 c.requires.turns.owns cl.1 cl.3
-
 pub returns-in_err-draft-clause-none_back : goal.returns-in_err-draft-clause-none_back
 returns-in_err-draft-clause-none_back g c = still_back c.args.number (seen_by c.args.pass.now)
 
-pub returns-in_err-claim-clause-ended : goal.returns-in_err-claim-clause-ended
-returns-in_err-claim-clause-ended g c =
+pub returns-in_err-short-clause-ended : goal.returns-in_err-short-clause-ended
+returns-in_err-short-clause-ended g c =
     let p = c.args.pass.now in
-    let q = c.claim.new.pass in
+    let q = c.make_room_by_turns.new.pass in
     let sc = scenario_seen p in
     let h = history_seen p in
     let more = history_seen q in
-    let cl = c.in_err-claim.ensures.claimed in
-    let m = (looked c.args.wire.now p q c.args.number cl.0 c.requires.turns.owns c.requires.turns.played c.claim.ensures.played c.claim.ensures.idle c.claim.ensures.same cl.1 cl.3).1 in
+    let m = c.in_err-short.ensures.meanwhile in
     let up = still_up g.D.Disk.meaning sc h more c.args.number c.args.site.now c.prepare_by_turns.new.site c.args.log.now c.args.logged.now m c.requires.up c.in_ok-draft.ensures.still in
     let still : IsStill g.D.Disk.meaning sc h more c.args.number (Up c.args.site.now c.args.log.now c.args.rose.now c.args.logged.now) (Up c.prepare_by_turns.new.site c.args.log.now c.args.rose.now c.args.logged.now) =
     record { meanwhile = m; disk = refl; stands = up } in
-    refused g.D.Disk.meaning sc h more c.args.number c.args.input (Up c.args.site.now c.args.log.now c.args.rose.now c.args.logged.now) (Up c.prepare_by_turns.new.site c.args.log.now c.args.rose.now c.args.logged.now)
-    c.in_err-claim.field-0.0 c.from_residual-in_err-claim.result c.from_residual-in_err-claim.ensures.1 still
+    no_room g.D.Disk.meaning sc h more c.args.number c.args.input (Up c.args.site.now c.args.log.now c.args.rose.now c.args.logged.now) (Up c.prepare_by_turns.new.site c.args.log.now c.args.rose.now c.args.logged.now)
+    c.in_err-short.field-0.0 (c.in_err-short.ensures.refused c.in_err-short.field-0.0 refl) c.from_residual-in_err-short.result c.from_residual-in_err-short.ensures.1 still
+
+pub returns-in_err-short-clause-never : goal.returns-in_err-short-clause-never
+returns-in_err-short-clause-never g c = λ is.
+    refuses c.in_err-short.field-0.0 c.from_residual-in_err-short.result (c.in_err-short.ensures.refused c.in_err-short.field-0.0 refl) c.from_residual-in_err-short.ensures.1 input_fault.Down is
+
+pub returns-in_err-short-clause-why : goal.returns-in_err-short-clause-why
+returns-in_err-short-clause-why g c = λ why is.
+    absurd (refuses c.in_err-short.field-0.0 c.from_residual-in_err-short.result (c.in_err-short.ensures.refused c.in_err-short.field-0.0 refl) c.from_residual-in_err-short.ensures.1 (input_fault.Fell why) is)
+
+pub returns-in_err-short-clause-room : goal.returns-in_err-short-clause-room
+returns-in_err-short-clause-room g c = λ why is fits.
+    absurd (refuses c.in_err-short.field-0.0 c.from_residual-in_err-short.result (c.in_err-short.ensures.refused c.in_err-short.field-0.0 refl) c.from_residual-in_err-short.ensures.1 (input_fault.Fell why) is)
 
 pub returns-in-Err-clause-why : goal.returns-in-Err-clause-why
 returns-in-Err-clause-why g c = λ why is.
@@ -367,10 +364,10 @@ returns-in-Err-clause-why g c = λ why is.
     let l = log_of sc h c.args.number in
     let brief = up_brief c.logs_are_sound.ensures.orderly c.logs_are_sound.ensures.sets c.logs_are_sound.ensures.sound c.logs_are_sound.ensures.mention c.logs_are_sound.ensures.begun c.logs_are_sound.ensures.votes sc h c.args.number
     c.requires.turns.played.given c.requires.turns.played.legal c.requires.up.up c.args.rose.now c.prepare_by_turns.new.site stood in
-    let size : c.len.result ≡ size_of c.records-records.result.now =
-    c.len.ensures ∙ ap length c.in_ok-draft.ensures.ready.drafted.body_is ∙ sym (ap size_of c.records-records.ensures) in
+    let size : length d.body ≡ size_of c.records-records.result.now =
+    ap length c.in_ok-draft.ensures.ready.drafted.body_is ∙ sym (ap size_of c.records-records.ensures) in
     let fits : HasRoomUnlessShort g.D.Disk.meaning.meters c.args.log.now l c.in_ok-short.short (size_of c.records-records.result.now) =
-    subst (λ (n : ℕ). HasRoomUnlessShort g.D.Disk.meaning.meters c.args.log.now l c.in_ok-short.short n) size (c.in_ok-short.ensures.due l brief c.requires.up.logged.stands.sound c.in-Err.ensures.some) in
+    subst (λ (n : ℕ). HasRoomUnlessShort g.D.Disk.meaning.meters c.args.log.now l c.in_ok-short.short n) size (c.in_ok-short.ensures.due l brief c.requires.up.logged.stands.sound (λ none. c.in-Err.ensures.some (c.records-records.ensures ∙ none))) in
     let same : c.in-Err.why ≡ why = cc in
     subst (λ (w : Why). IsReason w l (made_by sc h c.args.number c.args.input).records old new) same
     (subst (λ (rs : List Record). IsReason c.in-Err.why l rs old new) slice

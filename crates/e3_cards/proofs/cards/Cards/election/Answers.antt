@@ -6,4 +6,4 @@ use Rattle.e3_cards.proofs.cards.Cards.election.Goals as goal
 pub returns : goal.returns
 returns c = λ a stands.
     let card = c.card_of.ensures.card a stands in
-    ok_is c.copy_election.result _ _ (ap (λ (k : Card). k.election) card) c.copy_election.ensures
+    ok_is c.election_of.result _ _ (ap (λ (k : Card). k.election) card) c.election_of.ensures

@@ -8,4 +8,4 @@ expected_from-requires c = c.card_of.ensures.countable c.requires
 pub returns : goal.returns
 returns c = λ a stands.
     let card = c.card_of.ensures.card a stands in
-    ok_is c.expected_from.result _ _ (expected_at c.args.self.now.site c.args.self.now.inc c.args.of c.args.t.now a c.card_of.result.now stands.site_is stands.inc_is card) c.expected_from.ensures
+    ok_is c.expected_from.result _ _ (expected_at c.args.self.now.site c.args.self.now.inc c.args.of c.args.t.now a _ stands.site_is stands.inc_is card) c.expected_from.ensures

@@ -8,4 +8,4 @@ awaits-requires c = (c.card_of.ensures.countable c.requires).issued
 pub returns : goal.returns
 returns c = λ a stands input.
     let card = c.card_of.ensures.card a stands in
-    ok_is c.awaits.result _ _ (awaited_at c.args.f c.args.t.now c.args.n a c.args.input.now c.args.made.now c.card_of.result.now input card) c.awaits.ensures
+    ok_is c.awaits.result _ _ (awaited_at c.args.f c.args.t.now c.args.n a c.args.input.now c.args.made.now _ input card) c.awaits.ensures

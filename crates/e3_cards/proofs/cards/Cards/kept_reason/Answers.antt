@@ -6,4 +6,4 @@ use Rattle.e3_cards.proofs.cards.Cards.kept_reason.Goals as goal
 pub returns : goal.returns
 returns c = λ a stands.
     let card = c.card_of.ensures.card a stands in
-    c.reason_of.ensures ∙ ap (λ (k : Card). first_of k.reasons) card
+    c.first_reason.ensures ∙ ap first_of (c.reasons_of.ensures ∙ ap (λ (k : Card). k.reasons) card)

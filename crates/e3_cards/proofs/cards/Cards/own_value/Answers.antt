@@ -10,5 +10,5 @@ own_with-requires c = (c.card_of-card.ensures.countable c.requires).issued
 pub returns : goal.returns
 returns c = λ a stands input.
     let card = c.card_of-card.ensures.card a stands in
-    let done = done_now c.args.self.now.site c.args.t.now a c.args.input.now c.args.made.now c.card_of-card.result.now stands.site_is input card in
+    let done = done_now c.args.self.now.site c.args.t.now a c.args.input.now c.args.made.now _ stands.site_is input card in
     ok_is c.own_with.result _ _ (ap (λ (l : List Performed). fold (own_write c.args.name.now) c.args.row l) done) c.own_with.ensures

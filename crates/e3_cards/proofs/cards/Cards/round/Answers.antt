@@ -3,4 +3,4 @@ use Rattle.e3_cards.specs.declared.card.Card.{Card}
 use Rattle.e3_cards.proofs.cards.Cards.round.Goals as goal
 
 pub returns : goal.returns
-returns c = λ a stands. c.round_at.ensures ∙ ap (λ (k : Card). k.rounds.now) (stands.cards_are c.args.t.now c.found_by_bits.ensures)
+returns c = λ a stands. c.round_of.ensures ∙ ap (λ (k : Card). k.rounds.now) (c.card_of.ensures.card a stands)

@@ -3,4 +3,4 @@ use Rattle.e3_cards.specs.declared.card.Card.{Card}
 use Rattle.e3_cards.proofs.cards.Cards.seen.Goals as goal
 
 pub returns : goal.returns
-returns c = λ a stands. c.seen_at.ensures ∙ ap (λ (k : Card). k.seen) (stands.cards_are c.args.t.now c.found_by_bits.ensures)
+returns c = λ a stands. c.seen_of.ensures ∙ ap (λ (k : Card). k.seen) (c.card_of.ensures.card a stands)

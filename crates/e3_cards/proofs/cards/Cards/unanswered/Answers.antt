@@ -9,4 +9,4 @@ unanswered_now-requires c = let few = (c.card_of.ensures.countable c.requires).i
 pub returns : goal.returns
 returns c = λ a stands.
     let card = c.card_of.ensures.card a stands in
-    c.unanswered_now.ensures ∙ unanswered_at c.args.t.now a c.args.made.now c.card_of.result.now card
+    c.unanswered_now.ensures ∙ unanswered_at c.args.t.now a c.args.made.now _ card

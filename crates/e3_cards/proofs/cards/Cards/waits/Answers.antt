@@ -5,4 +5,4 @@ use Rattle.e3_cards.proofs.cards.Cards.waits.Goals as goal
 pub returns : goal.returns
 returns c = λ a stands.
     let card = c.card_of.ensures.card a stands in
-    c.waits_now.ensures ∙ waits_at c.args.t.now a c.args.made.now c.card_of.result.now card
+    c.waits_now.ensures ∙ waits_at c.args.t.now a c.args.made.now _ card

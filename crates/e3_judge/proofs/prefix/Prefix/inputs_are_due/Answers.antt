@@ -1,5 +1,4 @@
-use Rattle.std.proofs.Common.{◌≡◌, ◌++◌, ◌∷◌, [], ◌∙◌, true}
-use Rattle.e3_world.specs.Legal.{entry_of}
+use Rattle.std.proofs.Common.{◌≡◌, ◌∙◌, true}
 use Rattle.e3_judge.specs.Checks.{input_is_due}
 use Rattle.e3_judge.proofs.Stepping.{due_on}
 use Rattle.e3_judge.proofs.prefix.Prefix.inputs_are_due.Goals as goal
@@ -12,6 +11,5 @@ loop-input-preserved c =
     let scenario = c.of-prefix.ensures.scenario in
     let entries = c.of-prefix.ensures.entries ∙ c.as_slice.ensures in
     let due : input_is_due sc h c.args.site i ≡ true = cc (scenario, entries, c.in_ok-input_is_due.ensures, c.if-not-branch.false) in
-    let pushed : c.push.new.self ≡ h ++ entry_of sc h c.args.site i ∷ [] = cc (scenario, entries, c.in_ok-entry.ensures, c.in_ok-push.ensures.ok) in
     c.loop-input.invariant
-    ∙ due_on sc h c.push.new.self c.args.site c.args.inputs.now c.loop-input.input-index i c.loop-input-test.true c.input-item.is due pushed
+    ∙ due_on sc h c.go_on.new.history c.args.site c.args.inputs.now c.loop-input.input-index i c.loop-input-test.true c.input-item.is due c.in_ok-go_on.ensures

@@ -1,8 +1,11 @@
-use Rattle.std.proofs.Common.{◌≡◌, ◌+◌, ◌∷◌, [], ◌++◌, ℕ, List, refl, sym, ap, ◌∙◌, subst, arith}
+use Rattle.std.proofs.Common.{◌≡◌, ◌+◌, ◌∷◌, [], ◌++◌, ℕ, List, refl, sym, ap, ◌∙◌, subst, arith, ◌-◌, ◌≤◌}
+use Rattle.std.specs.Prelude.{vec_capacity}
 use Rattle.e3_disk.specs.Images.{overwritten}
+use Rattle.e3_disk.specs.Meters.{Keeps}
 use Rattle.e3_log.specs.Frames.{OPEN}
-use Rattle.e3_log.specs.Regions.{limit}
+use Rattle.e3_log.specs.Regions.{half, limit}
 use Rattle.e3_log.specs.Stands.{LogState, Stands, EachReadsAs, Leaves, staged}
+use Rattle.e3_log.proofs.Kept.{keeps_same}
 use Rattle.e3_log.proofs.Pieces.{limit_low}
 use Rattle.e3_log.proofs.Standing.{append_images, append_stands}
 use Rattle.e3_log.proofs.log.Log.append.Goals as goal
@@ -42,3 +45,28 @@ returns-in-Err-clause-images g c = λ bodies st.
     subst (λ (l : LogState g.row.D.Denot). EachReadsAs (g.D.Disk.meaning.meters l.disk).capacity l.generation bodies l.generation (bodies ++ c.args.body.now ∷ []) (g.D.Disk.meaning.image c.commit.new.disk)) c.self.view_is
     (append_images g.D.Disk.meaning bodies _ here c.args.body.now (omega (arith, room, low, c.capacity.ensures.most, c.capacity.ensures.value)) c.requires.untagged (omega (arith, room)) (g.D.Disk.meaning.image c.commit.new.disk)
     (λ image at. subst (λ (b : List ℕ). Leaves (g.D.Disk.meaning.content disk) c.self.inside.end b image) bytes (c.in-Err.ensures.images here.only image at)))
+
+pub returns-then-self-clause-keeps : goal.returns-then-self-clause-keeps
+returns-then-self-clause-keeps g c = keeps_same (g.D.Disk.meaning.meters c.args.self.now.disk)
+
+pub returns-then-need-room-clause-keeps : goal.returns-then-need-room-clause-keeps
+returns-then-need-room-clause-keeps g c = keeps_same (g.D.Disk.meaning.meters c.args.self.now.disk)
+
+pub returns-in-Ok-clause-keeps : goal.returns-in-Ok-clause-keeps
+returns-in-Ok-clause-keeps g c = subst (λ (l : LogState g.row.D.Denot). Keeps (g.D.Disk.meaning.meters l.disk) (g.D.Disk.meaning.meters c.commit.new.disk)) c.self.view_is c.in-Ok.ensures.meters.keeps
+
+pub returns-in-Err-clause-keeps : goal.returns-in-Err-clause-keeps
+returns-in-Err-clause-keeps g c = subst (λ (l : LogState g.row.D.Denot). Keeps (g.D.Disk.meaning.meters l.disk) (g.D.Disk.meaning.meters c.commit.new.disk)) c.self.view_is c.in-Err.ensures.meters.keeps
+
+pub invariant_of-self-in-Err : goal.invariant_of-self-in-Err
+invariant_of-self-in-Err g c =
+    let kept = c.self.invariant in
+    let room = c.put_staged.ensures.capacity in (
+      λ e. absurd cc,
+      λ e. absurd cc,
+      λ e. absurd cc,
+      λ e. absurd cc,
+      λ e. absurd cc,
+      kept.5,
+      subst (λ (k : ℕ). k - half k ≤ vec_capacity c.put_staged.new.buffer) (sym c.in-Err.ensures.meters.keeps.capacity) (omega (arith, kept.6, room)),
+    )

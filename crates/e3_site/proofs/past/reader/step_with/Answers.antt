@@ -1,4 +1,4 @@
-use Rattle.std.proofs.Common.{ℕ, refl, subst, sym, arith, ◌<◌}
+use Rattle.std.proofs.Common.{ℕ, refl, subst, sym, arith}
 use Rattle.e3_world.specs.Lives.{life_of}
 use Rattle.e3_readings.proofs.Counting.{life_steps}
 use Rattle.e3_site.specs.past.Knowing.{NamesStand}

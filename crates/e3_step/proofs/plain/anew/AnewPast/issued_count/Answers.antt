@@ -1,4 +1,4 @@
-use Rattle.std.proofs.Common.{arith, ap, subst, sym, ℕ, List, ◌∙◌, ◌≡◌, ◌≤◌, ◌<◌, length}
+use Rattle.std.proofs.Common.{arith, ap, subst, sym, ℕ, List, ◌∙◌, ◌≡◌, ◌<◌, length}
 use Rattle.e3_types.specs.declared.transactions.Op.{Op}
 use Rattle.e3_world.specs.declared.lives.Moment.{Moment}
 use Rattle.e3_world.specs.Operations.{issued}

@@ -1,8 +1,0 @@
-use Rattle.e3_site.proofs.past.Undecided.{added_are}
-use Rattle.e3_site.proofs.past.opening.added.Goals as goal
-
-pub returns : goal.returns
-returns c = λ a cards.
-    added_are a.site a.life c.args.step.now c.no_opens-more.result (record { logged = c.add_all_known.new.out; arrived = c.add_arrived.new.out; begun = c.add_all_known-2.new.out })
-    c.as_slice.result.now c.as_slice-2.result.now (c.no_opens-more.ensures 0 0) c.as_slice.ensures c.as_slice-2.ensures
-    (c.in_ok-add_all_known.ensures a cards) (c.in_ok-add_arrived.ensures a cards) (c.in_ok-add_all_known-2.ensures a cards)
