@@ -79,7 +79,7 @@ fn risen(alloc: Global, now: &Incarnation, records: &[Record]) -> Result<Incarna
 }
 
 // A tail that is kept goes into the log; one that is not, or none, leaves all as it was.
-fn keep(alloc: Global, standing: &mut Standing, kept: bool) -> Result<(), NoMemory>
+fn take_in_tail(alloc: Global, standing: &mut Standing, kept: bool) -> Result<(), NoMemory>
     ensures { OnOk result (standing.new.incarnation ≡ kept_in standing.old.incarnation kept standing.old.tail) }
 {
     match &standing.tail {
@@ -143,7 +143,7 @@ fn step_kept(
     })
 }
 
-// A fall.
+// A fall: what it left in doubt is the open tail.
 fn fall(
     alloc: Global,
     standing: &mut Standing,
@@ -173,7 +173,7 @@ fn risen_with(
     rise_records(alloc, scenario, site, inc, log.as_slice())
 }
 
-// A rise.
+// A rise: the tail where it is kept, and then the records of the rise, stand in the log, and no tail is open.
 fn rise(
     alloc: Global,
     scenario: &Scenario,
@@ -184,7 +184,7 @@ fn rise(
 ) -> Result<(), NoMemory>
     ensures { OnOk result (standing.new ≡ standing_by scenario.now site standing.old (act.Rise kept inc)) }
 {
-    keep(alloc, standing, kept)?;
+    take_in_tail(alloc, standing, kept)?;
     let records = risen_with(alloc, scenario, site, inc, &standing.incarnation)?;
     let now = risen(alloc, &standing.incarnation, records.as_slice())?;
     standing.incarnation = now;
@@ -192,7 +192,7 @@ fn rise(
     Ok(())
 }
 
-// A rise that fails.
+// A rise that fails: what is in doubt of its records is the open tail.
 fn rise_and_fall(
     alloc: Global,
     scenario: &Scenario,
@@ -204,7 +204,7 @@ fn rise_and_fall(
 ) -> Result<(), NoMemory>
     ensures { OnOk result (standing.new ≡ standing_by scenario.now site standing.old (act.RiseFall kept inc why)) }
 {
-    keep(alloc, standing, kept)?;
+    take_in_tail(alloc, standing, kept)?;
     let records = risen_with(alloc, scenario, site, inc, &standing.incarnation)?;
     standing.tail = left_by(why, List::new(alloc), records);
     Ok(())

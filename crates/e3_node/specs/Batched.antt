@@ -71,7 +71,7 @@ pub record IsBatch {D : Type 0} (meters : D → Meters) (on_disk : LogState D) (
   pub due : records_by sc history site done ≢ [] → HasRoomUnlessShort meters on_disk (log_of sc history site) batch.short (length batch.body)
 
 -- What a batch has with the step of a draft. While the batch records nothing the site tells the brief of the log, and a short
--- log is one of that log. Where the batch has no short log yet, the frame of both has room behind the log, or there is one.
+-- log is one of that log. Where the batch had no short log, the frame of both has room behind the log, or a short log is there now.
 pub record IsLonger {D : Type 0} (meters : D → Meters) (on_disk : LogState D) (batch : Batch) (s : SiteView) (draft : Draft) (longer : Lengthened) : Type 0 where
   pub records : longer.records ≡ batch.records ++ draft.plan.step.records
   pub body : longer.body ≡ batch.body ++ draft.body

@@ -29,7 +29,8 @@ fn parts_of(alloc: Global, plan: &Plan, input: &Input) -> Result<(List<u8>, List
     Ok((body, inputs))
 }
 
-// What a plan needs beside it is made while it is only lent, since whatever is owned where that may fail is proved there too.
+// The draft of this plan. What it has beside the plan is made while the plan is only borrowed, so that a refusal has no plan to
+// give back.
 fn draft_of(alloc: Global, plan: Plan, input: &Input) -> Result<Draft, NoMemory>
     ensures plan { IfOk result (λ draft. draft.plan ≡ plan) }
     ensures draft { IfOk result (IsDraft input.now) }

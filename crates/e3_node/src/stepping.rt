@@ -69,8 +69,8 @@ pub(crate) fn fall_of(owner: u32, inputs: List<Input>, records: List<Record>, wh
     Entry { owner, act }
 }
 
-// What the log is turned to for the frame of this draft, if it is. With that a place is claimed for the step.
-fn make_room<D: Disk>(
+// Claims a place for the step of this draft, and answers what the log is turned to for its frame, if it is.
+fn claim_place<D: Disk>(
     number: u32,
     site: &Site,
     log: &Log<D>,
@@ -142,7 +142,7 @@ fn step<D: Disk>(
         return Err(InputFault::HistoryFull);
     }
     let draft = prepare(site, rose, &input, shared)?;
-    let short = make_room(number, site, log, shared, &draft)?;
+    let short = claim_place(number, site, log, shared, &draft)?;
     let (records, body) = (draft.plan.records(), draft.body.as_slice());
     match write(log, logged, &short, records, body) {
         Ok(()) => {

@@ -44,9 +44,9 @@ pub(crate) fn must_rest(wire: &Wire, pass: &WirePass)
     let _ = pass;
 }
 
-// What the log is turned to for the frame of this draft, if it is. With that a place is claimed for the step, behind what
-// others put.
-fn make_room_by_turns<R: Wait, D: Disk>(
+// Claims a place for the step of this draft, behind what others put, and answers what the log is turned to for its frame, if
+// it is.
+fn claim_place_by_turns<R: Wait, D: Disk>(
     rt: &R,
     alloc: Global,
     wire: &Wire,
@@ -114,7 +114,7 @@ fn step_by_turns<R: Wait, D: Disk>(
 {
     logs_are_sound();
     let draft = prepare_by_turns(alloc, site, rose, &input, pass)?;
-    let short = make_room_by_turns(rt, alloc, wire, pass, number, site, log, &draft)?;
+    let short = claim_place_by_turns(rt, alloc, wire, pass, number, site, log, &draft)?;
     must_rest(wire, pass);
     let (records, body) = (draft.plan.records(), draft.body.as_slice());
     match write(log, logged, &short, records, body) {

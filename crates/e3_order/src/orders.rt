@@ -10,7 +10,7 @@ use e3_types::{Dir, List, NoMemory, Record, Txn};
 use std::alloc::Global;
 
 // One more record before those that were seen. The transaction of a vote is found where it is committed and this is its
-/// last vote.
+// last vote.
 fn note_vote(
     committed: &TxnSet,
     later: &mut TxnSet,
@@ -43,8 +43,8 @@ fn backward(alloc: Global, committed: &TxnSet, placed: &[SiteRecord]) -> Result<
     Ok(found)
 }
 
-/// The transactions that some of these records commit, in the order of their last votes: the records of all logs, in the
-/// order in which they were entered. Want of memory is the only error.
+/// The transactions that some of these records commit and some vote for, each at its last vote: the records of all logs, in
+/// the order in which they were entered. Want of memory is the only error.
 #[tactic(auto, using(crate::proofs::Ordering::order_is_reversed))]
 pub fn commit_order(alloc: Global, placed: &[SiteRecord]) -> Result<List<Txn>, NoMemory>
     ensures { IfOk result (λ txns. txns ≡ commit_order placed.now) }

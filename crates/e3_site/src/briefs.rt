@@ -97,6 +97,7 @@ fn add_all_noted(alloc: Global, records: &[Record], out: &mut List<Record>) -> R
     add_blocks(alloc, txns.as_slice(), records, out)
 }
 
+// Adds the brief of these records.
 fn add_brief(alloc: Global, records: &[Record], out: &mut List<Record>) -> Result<(), NoMemory>
     requires { out.old ≡ [] }
     ensures { IfOk result (λ u. out.new ≡ brief records.now) }

@@ -53,7 +53,7 @@ fn fitted<T: Drop>(items: List<T>) -> List<T>
     List::from_vec(items)
 }
 
-// The step as a site keeps it, with its packets without numbers.
+// The step as a site keeps it; `outs` are its packets, without their numbers.
 fn kept(input: &Input, made: Made, outs: List<Packet>) -> SiteStep
     requires { outs ≡ map unnumbered made.outs }
     ensures { result ≡ step_kept input.now made }

@@ -121,7 +121,7 @@ fn lines_with(alloc: Global, reading: &mut Reading, text: &[u8]) -> Result<Histo
     }
 }
 
-// The history that these lines spell, read into a room that is theirs.
+// The history that these lines spell. Its list has room for their entries from the start.
 fn lines(alloc: Global, text: &[u8]) -> Result<History, TraceFault>
     requires { length text.now ≤ 268435456 }
     ensures { Spells (λ h. h.entries) result (lines_read 1 nothing_read (pieces feed text.now)) }

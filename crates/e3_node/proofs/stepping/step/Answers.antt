@@ -65,17 +65,17 @@ enter-requires-clause-may g c =
     let e : Entry = entry_of_plan c.args.number c.args.input step in
     let fits : length step.outs ≡ length c.in_ok-draft.draft.plan.step.outs = ap (λ (p : SiteStep). length p.outs) c.apply.ensures.step in
     let small : length d.plan.step.outs < 2 ^ 32 = c.in_ok-draft.ensures.ready.few in
-    let may : MayEnterBehind c.make_room.new.shared e =
-    may_enter was c.make_room.new.shared _ e c.in_ok-short.ensures.claimed c.requires.shared.some (step_allowed sc h c.args.number c.args.input step is c.requires.shared.some c.requires.up.up c.requires.due)
+    let may : MayEnterBehind c.claim_place.new.shared e =
+    may_enter was c.claim_place.new.shared _ e c.in_ok-short.ensures.claimed c.requires.shared.some (step_allowed sc h c.args.number c.args.input step is c.requires.shared.some c.requires.up.up c.requires.due)
     (first_takes_least sc h c.args.number c.args.input c.requires.due c.requires.first) (omega (arith, fits)) small in
-    subst (λ (x : Entry). MayEnterBehind c.make_room.new.shared x) (sym c.step_of-step.ensures) may
+    subst (λ (x : Entry). MayEnterBehind c.claim_place.new.shared x) (sym c.step_of-step.ensures) may
 
 pub enter-requires-clause-all : goal.enter-requires-clause-all
 enter-requires-clause-all g c =
     let step : SiteStep = c.apply.result in
     let fits : length step.outs ≡ length c.in_ok-draft.draft.plan.step.outs = ap (λ (p : SiteStep). length p.outs) c.apply.ensures.step in
-    subst (λ (x : Entry). UsesAll c.make_room.new.shared x) (sym c.step_of-step.ensures)
-    (step_uses c.args.number _ c.args.shared.now c.make_room.new.shared c.args.input step.records step.outs step.told c.in_ok-short.ensures.claimed (sym fits))
+    subst (λ (x : Entry). UsesAll c.claim_place.new.shared x) (sym c.step_of-step.ensures)
+    (step_uses c.args.number _ c.args.shared.now c.claim_place.new.shared c.args.input step.records step.outs step.told c.in_ok-short.ensures.claimed (sym fits))
 
 pub enter-requires-in-Err-clause-may : goal.enter-requires-in-Err-clause-may
 enter-requires-in-Err-clause-may g c =
@@ -89,18 +89,18 @@ enter-requires-in-Err-clause-may g c =
     records_made sc h c.args.number c.args.input c.into_step-made.result (c.into_step-made.ensures ∙ made.step_is) in
     let e : Entry = record { owner = c.args.number; act = Fall d.inputs records c.in-Err.why } in
     let small : length d.plan.step.outs < 2 ^ 32 = c.in_ok-draft.ensures.ready.few in
-    let may : MayEnterBehind c.make_room.new.shared e =
-    may_enter was c.make_room.new.shared _ e c.in_ok-short.ensures.claimed c.requires.shared.some
+    let may : MayEnterBehind c.claim_place.new.shared e =
+    may_enter was c.claim_place.new.shared _ e c.in_ok-short.ensures.claimed c.requires.shared.some
     (fall_allowed sc h c.args.number c.args.input d.inputs records c.in-Err.why made.inputs_are rs c.requires.shared.some c.requires.up.up c.requires.due
     (λ none. c.in-Err.ensures.some (c.records-records.ensures ∙ records_made sc h c.args.number c.args.input d.plan.step made.step_is ∙ sym rs ∙ none)))
     (fall_takes sc h c.args.number c.args.input d.inputs made.inputs_are (first_takes_least sc h c.args.number c.args.input c.requires.due c.requires.first)) (omega arith) small in
-    subst (λ (x : Entry). MayEnterBehind c.make_room.new.shared x) (sym c.fall_of-fall.ensures) may
+    subst (λ (x : Entry). MayEnterBehind c.claim_place.new.shared x) (sym c.fall_of-fall.ensures) may
 
 pub enter-requires-in-Err-clause-all : goal.enter-requires-in-Err-clause-all
 enter-requires-in-Err-clause-all g c =
     let d = c.in_ok-draft.draft in
-    subst (λ (x : Entry). UsesAll c.make_room.new.shared x) (sym c.fall_of-fall.ensures)
-    (fall_uses c.args.number _ c.args.shared.now c.make_room.new.shared d.inputs c.into_step-made.result.records c.in-Err.why
+    subst (λ (x : Entry). UsesAll c.claim_place.new.shared x) (sym c.fall_of-fall.ensures)
+    (fall_uses c.args.number _ c.args.shared.now c.claim_place.new.shared d.inputs c.into_step-made.result.records c.in-Err.why
     (ap length c.in_ok-draft.ensures.ready.drafted.inputs_are) c.in_ok-short.ensures.claimed)
 
 pub returns-in-Ok-clause-shared : goal.returns-in-Ok-clause-shared
@@ -113,7 +113,7 @@ returns-in-Ok-clause-shared g c =
     let step : SiteStep = c.apply.result in
     let is : step ≡ step_kept c.args.input (made_by sc h c.args.number c.args.input) = c.apply.ensures.step ∙ made.step_is in
     let e : Entry = entry_of_plan c.args.number c.args.input step in
-    let has : HasEntered e was c.enter.new.shared = has_from was c.make_room.new.shared c.enter.new.shared _ c.step_of-step.result e c.step_of-step.ensures c.in_ok-short.ensures.claimed c.enter.ensures in
+    let has : HasEntered e was c.enter.new.shared = has_from was c.claim_place.new.shared c.enter.new.shared _ c.step_of-step.result e c.step_of-step.ensures c.in_ok-short.ensures.claimed c.enter.ensures in
     has.on
 
 pub returns-in-Ok-clause-stepped : goal.returns-in-Ok-clause-stepped
@@ -126,7 +126,7 @@ returns-in-Ok-clause-stepped g c =
     let step : SiteStep = c.apply.result in
     let is : step ≡ step_kept c.args.input (made_by sc h c.args.number c.args.input) = c.apply.ensures.step ∙ made.step_is in
     let e : Entry = entry_of_plan c.args.number c.args.input step in
-    let has : HasEntered e was c.enter.new.shared = has_from was c.make_room.new.shared c.enter.new.shared _ c.step_of-step.result e c.step_of-step.ensures c.in_ok-short.ensures.claimed c.enter.ensures in
+    let has : HasEntered e was c.enter.new.shared = has_from was c.claim_place.new.shared c.enter.new.shared _ c.step_of-step.result e c.step_of-step.ensures c.in_ok-short.ensures.claimed c.enter.ensures in
     step_entered sc h (entries_of c.enter.new.shared) c.args.number c.args.input step is has.entries
 
 pub returns-in-Ok-clause-up : goal.returns-in-Ok-clause-up
@@ -139,7 +139,7 @@ returns-in-Ok-clause-up g c =
     let step : SiteStep = c.apply.result in
     let is : step ≡ step_kept c.args.input (made_by sc h c.args.number c.args.input) = c.apply.ensures.step ∙ made.step_is in
     let e : Entry = entry_of_plan c.args.number c.args.input step in
-    let has : HasEntered e was c.enter.new.shared = has_from was c.make_room.new.shared c.enter.new.shared _ c.step_of-step.result e c.step_of-step.ensures c.in_ok-short.ensures.claimed c.enter.ensures in
+    let has : HasEntered e was c.enter.new.shared = has_from was c.claim_place.new.shared c.enter.new.shared _ c.step_of-step.result e c.step_of-step.ensures c.in_ok-short.ensures.claimed c.enter.ensures in
     let entered = step_entered sc h (entries_of c.enter.new.shared) c.args.number c.args.input step is has.entries in
     let ready : StandsBy sc h c.args.number c.args.rose.now c.prepare.new.site =
     record { alike = c.in_ok-draft.ensures.still.stands sc h c.args.number c.args.rose.now c.requires.up.stands.alike; risen = c.requires.up.stands.risen; order = c.requires.up.stands.order } in
@@ -171,7 +171,7 @@ returns-in-Err-clause-shared g c =
     let rs : records ≡ (made_by sc h c.args.number c.args.input).records =
     records_made sc h c.args.number c.args.input c.into_step-made.result (c.into_step-made.ensures ∙ made.step_is) in
     let e : Entry = record { owner = c.args.number; act = Fall d.inputs records c.in-Err.why } in
-    let has : HasEntered e was c.enter-in-Err.new.shared = has_from was c.make_room.new.shared c.enter-in-Err.new.shared _ c.fall_of-fall.result e c.fall_of-fall.ensures c.in_ok-short.ensures.claimed c.enter-in-Err.ensures in
+    let has : HasEntered e was c.enter-in-Err.new.shared = has_from was c.claim_place.new.shared c.enter-in-Err.new.shared _ c.fall_of-fall.result e c.fall_of-fall.ensures c.in_ok-short.ensures.claimed c.enter-in-Err.ensures in
     has.on
 
 pub returns-in-Err-clause-fell : goal.returns-in-Err-clause-fell
@@ -185,7 +185,7 @@ returns-in-Err-clause-fell g c = λ why is.
     let rs : records ≡ (made_by sc h c.args.number c.args.input).records =
     records_made sc h c.args.number c.args.input c.into_step-made.result (c.into_step-made.ensures ∙ made.step_is) in
     let e : Entry = record { owner = c.args.number; act = Fall d.inputs records c.in-Err.why } in
-    let has : HasEntered e was c.enter-in-Err.new.shared = has_from was c.make_room.new.shared c.enter-in-Err.new.shared _ c.fall_of-fall.result e c.fall_of-fall.ensures c.in_ok-short.ensures.claimed c.enter-in-Err.ensures in
+    let has : HasEntered e was c.enter-in-Err.new.shared = has_from was c.claim_place.new.shared c.enter-in-Err.new.shared _ c.fall_of-fall.result e c.fall_of-fall.ensures c.in_ok-short.ensures.claimed c.enter-in-Err.ensures in
     let entered = fall_entered sc h (entries_of c.enter-in-Err.new.shared) c.args.number c.args.input d.inputs records c.in-Err.why made.inputs_are rs has.entries in
     let more = entries_of c.enter-in-Err.new.shared in
     let some : (made_by sc h c.args.number c.args.input).records ≢ [] = (λ none. c.in-Err.ensures.some (c.records-records.ensures ∙ records_made sc h c.args.number c.args.input d.plan.step made.step_is ∙ none)) in

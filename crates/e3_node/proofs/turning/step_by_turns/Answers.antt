@@ -55,13 +55,13 @@ write-requires-clause-may g c =
 pub commit_entry-requires-clause-owns : goal.commit_entry-requires-clause-owns
 commit_entry-requires-clause-owns g c =
     let p = c.args.pass.now in
-    let q = c.make_room_by_turns.new.pass in
+    let q = c.claim_place_by_turns.new.pass in
     subst (λ (y : Entry). Owns q y.owner) (sym c.step_of-step.ensures) (still_owns p q c.args.number c.in_ok-short.ensures.same c.requires.turns.owns)
 
 pub commit_entry-requires-clause-may : goal.commit_entry-requires-clause-may
 commit_entry-requires-clause-may g c =
     let p = c.args.pass.now in
-    let q = c.make_room_by_turns.new.pass in
+    let q = c.claim_place_by_turns.new.pass in
     let sc = scenario_seen p in
     let h = history_seen p in
     let d = c.in_ok-draft.draft in
@@ -81,7 +81,7 @@ commit_entry-requires-clause-may g c =
 pub commit_entry-requires-clause-alone : goal.commit_entry-requires-clause-alone
 commit_entry-requires-clause-alone g c = λ calm.
     let p = c.args.pass.now in
-    let q = c.make_room_by_turns.new.pass in
+    let q = c.claim_place_by_turns.new.pass in
     let cl = c.in_ok-short.ensures.claimed in
     let restless = still_restless p (seen_by q) cl.between c.args.number _ c.requires.turns.owns cl.grew cl.played cl.is c.requires.turns.played c.in_ok-short.ensures.played c.requires.turns.restless in
     absurd (let both = sym calm ∙ restless in cc)
@@ -89,13 +89,13 @@ commit_entry-requires-clause-alone g c = λ calm.
 pub commit_entry-requires-in-Err-clause-owns : goal.commit_entry-requires-in-Err-clause-owns
 commit_entry-requires-in-Err-clause-owns g c =
     let p = c.args.pass.now in
-    let q = c.make_room_by_turns.new.pass in
+    let q = c.claim_place_by_turns.new.pass in
     subst (λ (y : Entry). Owns q y.owner) (sym c.fall_of-fall.ensures) (still_owns p q c.args.number c.in_ok-short.ensures.same c.requires.turns.owns)
 
 pub commit_entry-requires-in-Err-clause-may : goal.commit_entry-requires-in-Err-clause-may
 commit_entry-requires-in-Err-clause-may g c =
     let p = c.args.pass.now in
-    let q = c.make_room_by_turns.new.pass in
+    let q = c.claim_place_by_turns.new.pass in
     let sc = scenario_seen p in
     let h = history_seen p in
     let d = c.in_ok-draft.draft in
@@ -116,7 +116,7 @@ commit_entry-requires-in-Err-clause-may g c =
 pub commit_entry-requires-in-Err-clause-alone : goal.commit_entry-requires-in-Err-clause-alone
 commit_entry-requires-in-Err-clause-alone g c = λ calm.
     let p = c.args.pass.now in
-    let q = c.make_room_by_turns.new.pass in
+    let q = c.claim_place_by_turns.new.pass in
     let cl = c.in_ok-short.ensures.claimed in
     let restless = still_restless p (seen_by q) cl.between c.args.number _ c.requires.turns.owns cl.grew cl.played cl.is c.requires.turns.played c.in_ok-short.ensures.played c.requires.turns.restless in
     absurd (let both = sym calm ∙ restless in cc)
@@ -124,7 +124,7 @@ commit_entry-requires-in-Err-clause-alone g c = λ calm.
 pub returns-in-Ok-clause-turned : goal.returns-in-Ok-clause-turned
 returns-in-Ok-clause-turned g c =
     let p = c.args.pass.now in
-    let q = c.make_room_by_turns.new.pass in
+    let q = c.claim_place_by_turns.new.pass in
     let sc = scenario_seen p in
     let h = history_seen p in
     let d = c.in_ok-draft.draft in
@@ -148,7 +148,7 @@ returns-in-Ok-clause-turned g c =
 pub returns-in-Ok-clause-none_back : goal.returns-in-Ok-clause-none_back
 returns-in-Ok-clause-none_back g c =
     let p = c.args.pass.now in
-    let q = c.make_room_by_turns.new.pass in
+    let q = c.claim_place_by_turns.new.pass in
     let r = c.commit_entry.new.pass in
     let cl = c.in_ok-short.ensures.claimed in
     let e : Entry = entry_of_plan c.args.number c.args.input c.apply.result in
@@ -161,7 +161,7 @@ returns-in-Ok-clause-none_back g c =
 pub returns-in-Ok-clause-ended : goal.returns-in-Ok-clause-ended
 returns-in-Ok-clause-ended g c =
     let p = c.args.pass.now in
-    let q = c.make_room_by_turns.new.pass in
+    let q = c.claim_place_by_turns.new.pass in
     let sc = scenario_seen p in
     let h = history_seen p in
     let d = c.in_ok-draft.draft in
@@ -225,7 +225,7 @@ returns-in-Ok-clause-ended g c =
 pub returns-in-Err-clause-turned : goal.returns-in-Err-clause-turned
 returns-in-Err-clause-turned g c =
     let p = c.args.pass.now in
-    let q = c.make_room_by_turns.new.pass in
+    let q = c.claim_place_by_turns.new.pass in
     let sc = scenario_seen p in
     let h = history_seen p in
     let d = c.in_ok-draft.draft in
@@ -250,7 +250,7 @@ returns-in-Err-clause-turned g c =
 pub returns-in-Err-clause-none_back : goal.returns-in-Err-clause-none_back
 returns-in-Err-clause-none_back g c =
     let p = c.args.pass.now in
-    let q = c.make_room_by_turns.new.pass in
+    let q = c.claim_place_by_turns.new.pass in
     let r = c.commit_entry-in-Err.new.pass in
     let sc = scenario_seen p in
     let h = history_seen p in
@@ -268,7 +268,7 @@ returns-in-Err-clause-none_back g c =
 pub returns-in-Err-clause-ended : goal.returns-in-Err-clause-ended
 returns-in-Err-clause-ended g c =
     let p = c.args.pass.now in
-    let q = c.make_room_by_turns.new.pass in
+    let q = c.claim_place_by_turns.new.pass in
     let sc = scenario_seen p in
     let h = history_seen p in
     let d = c.in_ok-draft.draft in
@@ -322,7 +322,7 @@ returns-in_err-draft-clause-none_back g c = still_back c.args.number (seen_by c.
 pub returns-in_err-short-clause-ended : goal.returns-in_err-short-clause-ended
 returns-in_err-short-clause-ended g c =
     let p = c.args.pass.now in
-    let q = c.make_room_by_turns.new.pass in
+    let q = c.claim_place_by_turns.new.pass in
     let sc = scenario_seen p in
     let h = history_seen p in
     let more = history_seen q in

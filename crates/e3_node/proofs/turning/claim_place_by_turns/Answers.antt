@@ -4,7 +4,7 @@ use Rattle.e3_wire.specs.declared.marks.Mark.TheVariants as mark
 use Rattle.e3_node.proofs.InputsByTurns.{with_error}
 use Rattle.e3_node.proofs.Places.{looked_back, still_back}
 use Rattle.e3_node.proofs.Waiting.{looked}
-use Rattle.e3_node.proofs.turning.make_room_by_turns.Goals as goal
+use Rattle.e3_node.proofs.turning.claim_place_by_turns.Goals as goal
 
 pub returns-clause-claimed : goal.returns-clause-claimed
 returns-clause-claimed g c =
