@@ -36,20 +36,20 @@ pub fn push_turn(page: &mut Page, end: Result<(), TurnFault>) {
     }
 }
 
-/// Adds why no log was opened.
-pub fn push_cause(page: &mut Page, cause: OpenCause) {
+/// Adds why no log was opened, with what stands before the place of a damage.
+pub fn push_cause(page: &mut Page, damaged: &str, cause: OpenCause) {
     match cause {
         OpenCause::Failed => page.text("failed"),
-        OpenCause::Damaged { at } => page.labelled("damaged ", at),
+        OpenCause::Damaged { at } => page.labelled(damaged, at),
         OpenCause::NoMemory => page.text("no memory"),
     }
 }
 
-/// Adds the frames that a log was opened with, each by its place and its body.
-pub fn push_frames(page: &mut Page, frames: &[Frame]) {
-    page.labelled("frames ", frames.len() as u64);
+/// Adds the number of the frames that a log was opened with, and each by its place and its body.
+pub fn push_frames(page: &mut Page, label: &str, place: &str, frames: &[Frame]) {
+    page.labelled(label, frames.len() as u64);
     for frame in frames {
-        page.labelled(", at ", frame.place);
+        page.labelled(place, frame.place);
         page.text(" ");
         page.hex(frame.body.as_slice());
     }

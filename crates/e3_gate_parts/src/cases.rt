@@ -70,18 +70,12 @@ fn told(alloc: Global, cases: &[Case], text: &[u8]) -> Result<List<u8>, NoMemory
     )
 }
 
-// The case that these lines tell, behind the cases before it.
-fn case_of(alloc: Global, cases: &[Case], lines: &[u8]) -> Result<Case, NoMemory> {
+// Adds the case that these lines tell, behind the cases before it.
+fn push_case(alloc: Global, cases: &mut List<Case>, lines: &[u8]) -> Result<(), NoMemory> {
     let (head, text) = cut(lines, b'\n');
     let name = bytes_of(alloc, head.strip_prefix(b"#case ").unwrap_or(head))?;
-    let text = told(alloc, cases, text)?;
-    Ok(Case { name, text })
-}
-
-// Adds the case that these lines tell.
-fn push_case(alloc: Global, cases: &mut List<Case>, lines: &[u8]) -> Result<(), NoMemory> {
-    let case = case_of(alloc, cases.as_slice(), lines)?;
-    cases.push(case)
+    let text = told(alloc, cases.as_slice(), text)?;
+    cases.push(Case { name, text })
 }
 
 /// The cases of an input.

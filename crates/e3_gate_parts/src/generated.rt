@@ -13,22 +13,17 @@ use std::alloc::Global;
 
 const LAST: u32 = 1000;
 
-// The scenario of a text; none where it spells none.
-fn read(alloc: Global, text: &[u8]) -> Result<Option<Scenario>, NoMemory> {
-    match read_scenario(alloc, text) {
-        Ok(scenario) => Ok(Some(scenario)),
-        Err(ScenarioFault::NoMemory) => Err(NoMemory),
-        Err(_) => Ok(None),
-    }
-}
-
 // The scenario that the text of this number spells; none where it spells none.
 fn spelled(alloc: Global, n: u32) -> Result<Option<Scenario>, NoMemory>
     requires least { 1 ≤ n }
     requires most { n ≤ 1000 }
 {
     let text = generated(alloc, n)?;
-    read(alloc, text.as_slice())
+    match read_scenario(alloc, text.as_slice()) {
+        Ok(scenario) => Ok(Some(scenario)),
+        Err(ScenarioFault::NoMemory) => Err(NoMemory),
+        Err(_) => Ok(None),
+    }
 }
 
 // Whether this is the scenario of a number.

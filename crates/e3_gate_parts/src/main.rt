@@ -2,11 +2,14 @@
 //! logs in two regions. Then texts that are read: scenarios and their faults, a report and a trace, verdicts on traces, and the
 //! generated scenarios.
 //! Each part stands behind a line `== NAME`, in the standard input where it reads any, and in the file of this program's output.
+//! A case of the layers or of the parts is a line of pieces with bars between them, which `texts` tells; a case of the regions is a
+//! disk's capacity and words, which `disks` tells. Each other file says how its lines are read.
 #![tactic(auto)]
 
 mod answers;
 mod cases;
 mod checks;
+mod disks;
 mod forms;
 mod generated;
 mod layers;

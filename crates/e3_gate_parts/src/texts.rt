@@ -1,6 +1,8 @@
-// Words of the input, and what cases of several parts print.
+// Words of the input, and what cases of several parts print. A line of cases has pieces between bars: a piece behind `=` is printed
+// as it stands, a piece `/` ends a line of the output, and each other piece says what is
+// done: its first letter tells it from others.
 use e3_report::Page;
-use e3_types::{List, NoMemory, Txn};
+use e3_types::{List, NoMemory, SiteSet, State, Txn};
 use std::alloc::Global;
 
 /// A list of these bytes.
@@ -18,6 +20,14 @@ pub fn cut(line: &[u8], mark: u8) -> (&[u8], &[u8]) {
         }
     }
     (line, b"")
+}
+
+/// The first letter of a word; 0 for none.
+pub fn letter_of(word: &[u8]) -> u8 {
+    match word {
+        [letter, ..] => *letter,
+        [] => 0,
+    }
 }
 
 /// The parts of a text between such bytes.
@@ -58,6 +68,57 @@ pub fn number(word: &[u8]) -> u64 {
     }
 }
 
+/// A number of 32 bits; 0 where the word is none.
+pub fn small(word: &[u8]) -> u32 {
+    number(word).min(4_294_967_295) as u32
+}
+
+/// The three numbers of a word, with colons between them; 0 for each that is missing.
+pub fn triple(word: &[u8]) -> (u32, u32, u32) {
+    let (first, rest) = cut(word, b':');
+    let (second, third) = cut(rest, b':');
+    (small(first), small(second), small(third))
+}
+
+/// The numbers of a text with commas between them; none for an empty text.
+pub fn numbers_of(alloc: Global, text: &[u8]) -> Result<List<u32>, NoMemory> {
+    let mut numbers = List::new(alloc);
+    for word in parts_of(alloc, text, b',')?.iter() {
+        if !word.is_empty() {
+            numbers.push(small(word))?;
+        }
+    }
+    Ok(numbers)
+}
+
+/// The sites of a text with commas between them; no site where they are not a set.
+pub fn set_of(alloc: Global, text: &[u8]) -> Result<SiteSet, NoMemory> {
+    let sites = numbers_of(alloc, text)?;
+    Ok(SiteSet::of(sites.as_slice()).unwrap_or(SiteSet::empty()))
+}
+
+/// The state of this name, as reports have it.
+pub fn state_of(name: &[u8]) -> State {
+    match name {
+        [b'w'] => State::W,
+        [b'c'] => State::C,
+        [b'a'] => State::A,
+        [b'p', b'c'] => State::Pc,
+        [b'p', b'a'] => State::Pa,
+        _ => State::Q,
+    }
+}
+
+/// The transaction that begins as the n-th at site 1, over these sites.
+pub fn txn_of(seq: u32, sites: SiteSet) -> Txn {
+    Txn {
+        site: 1,
+        inc: 1,
+        seq,
+        sites,
+    }
+}
+
 fn half_byte(digit: u8) -> u8 {
     match digit {
         b'0'..=b'9' => digit - b'0',
@@ -82,6 +143,16 @@ pub fn spelled_by(alloc: Global, digits: &[u8]) -> Result<List<u8>, NoMemory> {
     Ok(bytes)
 }
 
+/// Adds a piece that is a text or the end of a line; whether it is one.
+pub fn push_text(page: &mut Page, piece: &[u8]) -> bool {
+    match piece {
+        [b'=', text @ ..] => page.bytes(text),
+        [b'/'] => page.text("\n"),
+        _ => return false,
+    }
+    true
+}
+
 /// Adds bytes as two digits each, and ends the line.
 pub fn push_hex(page: &mut Page, bytes: &[u8]) {
     page.hex(bytes);
@@ -100,9 +171,9 @@ pub fn push_flag(page: &mut Page, holds: bool) {
 }
 
 /// Adds a number behind a space, or a dash for none.
-pub fn push_known(page: &mut Page, number: Option<u64>) {
+pub fn push_known(page: &mut Page, number: Option<u32>) {
     match number {
-        Some(number) => page.labelled(" ", number),
+        Some(number) => page.labelled(" ", u64::from(number)),
         None => push_word(page, "-"),
     }
 }

@@ -34,7 +34,13 @@ struct Tally {
 
 // The report of a run behind this gate; none without memory.
 fn reported<R: Wait + Threads + Sync>(rt: &R, alloc: Global, gate: &Meeting) -> Option<MemSink> {
-    let Ran { sink, .. } = played_behind(rt, alloc, &Given::of(SCENARIO.as_bytes()), gate)?;
+    let Ran {
+        ended,
+        source,
+        sink,
+    } = played_behind(rt, alloc, &Given::of(SCENARIO.as_bytes()), gate)?;
+    drop(ended);
+    drop(source);
     Some(sink)
 }
 
@@ -60,7 +66,10 @@ fn count_run<R: Wait + Threads + Sync>(
 ) {
     let gate = Meeting::new();
     match reported(rt, alloc, &gate) {
-        Some(sink) => tally.count(gate.is_met(), sink.written() == first),
+        Some(sink) => {
+            tally.count(gate.is_met(), sink.written() == first);
+            drop(sink);
+        }
         None => page.lack(),
     }
 }

@@ -133,7 +133,35 @@ fn entries_of(given: &Given) -> u32 {
     }
 }
 
-/// The run behind a gate; none without memory.
+// What a run reads and writes.
+#[derive(Drop)]
+struct Streams {
+    source: MemSource,
+    sink: MemSink,
+}
+
+fn streams_of(alloc: Global, given: &Given) -> Option<Streams> {
+    let source = source_of(alloc, given)?;
+    match sink_of(alloc, given) {
+        Some(sink) => Some(Streams { source, sink }),
+        None => {
+            drop(source);
+            None
+        }
+    }
+}
+
+fn left_by(ended: Ended<MemDisk>, streams: Streams) -> Ran {
+    let Streams { source, sink } = streams;
+    Ran {
+        ended,
+        source,
+        sink,
+    }
+}
+
+/// The run behind a gate; none without memory. (A value that owns much is handed to `drop`, here and in the other parts: so its proof
+/// gives it back by one call.)
 pub fn played_behind<G: Gate + Sync, R: Wait + Threads + Sync>(
     rt: &R,
     alloc: Global,
@@ -141,20 +169,21 @@ pub fn played_behind<G: Gate + Sync, R: Wait + Threads + Sync>(
     gate: &G,
 ) -> Option<Ran> {
     let words = words_of(alloc, given.value(b'w').unwrap_or(b"run"))?;
-    let mut source = source_of(alloc, given)?;
-    let mut sink = sink_of(alloc, given)?;
     let fails = fails(alloc, given, b'd')?;
     let capacity = given.number(b'c', 65536).max(2).min(1_048_576);
-    let Ok(disks) = memory_disks(alloc, capacity, 1, fails) else {
-        return None;
-    };
-    let most = entries_of(given).max(1).min(2_000_000);
-    let ended = run_within(rt, alloc, &words, &mut source, &mut sink, disks, gate, most);
-    Some(Ran {
-        ended,
-        source,
-        sink,
-    })
+    let mut streams = streams_of(alloc, given)?;
+    match memory_disks(alloc, capacity, 1, fails) {
+        Ok(disks) => {
+            let (source, sink) = (&mut streams.source, &mut streams.sink);
+            let most = entries_of(given).max(1).min(2_000_000);
+            let ended = run_within(rt, alloc, &words, source, sink, disks, gate, most);
+            Some(left_by(ended, streams))
+        }
+        Err(_) => {
+            drop(streams);
+            None
+        }
+    }
 }
 
 /// The run with no gate in its way; none without memory.

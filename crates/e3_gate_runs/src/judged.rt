@@ -5,21 +5,16 @@
 // `judge NAME: SETTINGS` judges a run, and `group NAME` four. `stop NAME: CALL LEAVE, SETTINGS` puts these words for the `@` of the
 // text, judges the run and adds the events behind the stop. `run NAME: SETTINGS` tells how a run ends whose streams, disks or
 // history are as the settings say, `events NAME: SETTINGS` counts some events of it, and `log NAME: SETTINGS` what site 1 does whose
-// log has no room. `disk` has the bytes of the disk of site 1, and `fronts` how each front of the text is refused. `change BODIES:
-// VALUES` opens logs over a disk with a frame for each body, where one byte is changed by one of the values, and `open PLACE:
-// BYTES` one over a disk that is blank but for these bytes. `pace N` makes a history of about N entries, and its report.
+// log has no room. `disk` has the bytes of the disk of site 1, and `fronts` how each front of the text is refused.
 
-mod damage;
 mod ends;
-mod frames;
 mod fronts;
 mod judging;
 mod logs;
-pub mod pace;
 mod standing;
 
 use crate::given::{Asked, Given};
-use crate::texts::{cut, number, without_end};
+use crate::texts::{cut, without_end};
 use e3_report::Page;
 use std::alloc::Global;
 use std::sync::Wait;
@@ -49,9 +44,6 @@ fn push_command<R: Wait + Threads + Sync>(
         Some(b'd') => ends::push_disk(rt, alloc, page, text),
         Some(b'l') => logs::push_log(rt, alloc, page, &asked),
         Some(b'f') => fronts::push_fronts(rt, alloc, page, text),
-        Some(b'p') => pace::push_report(alloc, page, number(rest).min(1000) as u32),
-        Some(b'c') => damage::push_changes(alloc, page, name, settings),
-        Some(b'o') => damage::push_open(alloc, page, name, settings),
         _ => page.lack(),
     }
 }

@@ -2,8 +2,8 @@
 //! turn lock goes from thread to thread, and how runs end, are judged, and stand on their disks. Each part stands behind a line
 //! `== NAME`, in the standard input where it reads any, and in the file of this program's output.
 //!
-//! With words the program prints no part: `--time` asks how fast the turn lock is, `--judge` what is said of a run of the one
-//! scenario in the standard input, and `judged/pace.rt` has the others.
+//! With a word the program prints no part: `--time` asks how fast the turn lock is, and `--judge` what is said of a run of the one
+//! scenario in the standard input.
 #![tactic(auto)]
 
 mod at_once;
@@ -15,9 +15,7 @@ mod rounds;
 mod texts;
 mod turns;
 
-use e3_outside::StdSource;
 use e3_report::Page;
-use judged::pace;
 use std::alloc::Global;
 use std::env;
 use std::process::ExitCode;
@@ -36,7 +34,6 @@ enum Wanted {
     Parts,
     TurnTimes,
     Judged,
-    Paced(pace::Asked),
 }
 
 // The words behind the program's name; none without memory.
@@ -54,7 +51,7 @@ fn read_words(words: &[String]) -> Option<Wanted> {
         [] => Some(Wanted::Parts),
         [word] if word.as_str() == "--time" => Some(Wanted::TurnTimes),
         [word] if word.as_str() == "--judge" => Some(Wanted::Judged),
-        _ => Some(Wanted::Paced(pace::read_words(words)?)),
+        _ => None,
     }
 }
 
@@ -85,10 +82,6 @@ fn main(rt: HostRuntime) -> ExitCode {
         Wanted::Judged => {
             let given = Page::read(alloc, rt.reader());
             judged::push_one(&rt, alloc, &mut page, &given);
-        }
-        Wanted::Paced(asked) => {
-            let mut source = StdSource::new(rt.reader());
-            pace::push_asked(&rt, alloc, &mut page, &mut source, asked);
         }
     }
     page.print(&rt)

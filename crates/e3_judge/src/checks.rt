@@ -1,5 +1,5 @@
 // The guards of an entry, tried in order: nothing is computed behind the first that fails.
-ghost use Rattle.std.specs.Prelude.{◌≡◌, ◌==◌, ◌+◌, ◌++◌, ◌∷◌, [], IfOk, suc, length};
+ghost use Rattle.std.specs.Prelude.{◌≡◌, ◌==◌, ◌+◌, ◌++◌, ◌||◌, ◌∷◌, [], IfOk, suc, length, not, is_none};
 ghost use Rattle.e3_types.specs.Same.{same_numbers};
 ghost use Rattle.e3_types.specs.declared.entries.Act.TheVariants as act;
 ghost use Rattle.e3_world.specs.Items.{is_up_at};
@@ -274,6 +274,27 @@ impl Prefix<'_> {
         Ok(is_next(inc, logged_inc(log.as_slice()) as u64))
     }
 
+    // The first guard that a rise fails which may come, the open tail being this.
+    fn tail_breach(
+        &self,
+        site: u32,
+        kept: bool,
+        tail: &Option<Tail>,
+        inc: u32,
+    ) -> Result<Option<Guard>, NoMemory>
+        requires { tail.now ≡ open_tail self.now.scenario.now self.now.entries.now site }
+        ensures { IfOk result (λ g. g ≡ first_failing (
+            record { guard = guard.Tail; holds = not kept || not (is_none (open_tail self.now.scenario.now self.now.entries.now site)) } ∷
+            record { guard = guard.Inc; holds = is_next_inc self.now.scenario.now self.now.entries.now site kept inc } ∷
+            [])) }
+    {
+        if kept && tail.is_none() {
+            return Ok(Some(Guard::Tail));
+        }
+        let is_next = self.is_next_inc(site, kept, tail, inc)?;
+        Ok(unless(is_next, Guard::Inc))
+    }
+
     // The first guard that a rise which read the log fails.
     fn rise_breach(&self, site: u32, kept: bool, inc: u32) -> Result<Option<Guard>, NoMemory>
         ensures { IfOk result (λ g. g ≡ first_failing (rise_checks self.now.scenario.now self.now.entries.now site kept inc)) }
@@ -283,11 +304,10 @@ impl Prefix<'_> {
             return Ok(rising);
         }
         let tail = self.tail_at(site)?;
-        if kept && tail.is_none() {
-            return Ok(Some(Guard::Tail));
-        }
-        let is_next = self.is_next_inc(site, kept, &tail, inc)?;
-        Ok(unless(is_next, Guard::Inc))
+        let breach = self.tail_breach(site, kept, &tail, inc);
+        // (handed to `drop`, it is given back by one call)
+        drop(tail);
+        breach
     }
 
     // The first guard that a line fails.

@@ -1,7 +1,8 @@
 // The rounds of a recover step: for each transaction that is open at a member of the group that is up, in ascending order.
 ghost use Rattle.std.specs.Prelude.{◌≡◌, ◌++◌, filter, find, IfOk};
 ghost use Rattle.std.specs.List.{flat_map};
-ghost use Rattle.e3_world.specs.Items.{due_round, elected_txn, inputs_of, is_up_at, listed, open_at, recover_group, rounds_left, since_line};
+ghost use Rattle.e3_world.specs.Items.{due_round, elected_txn, inputs_of, is_up_at, listed, open_at, recover_group, rounds_left, since_line, undecided_in};
+ghost use Rattle.e3_world.specs.Lives.{life_of};
 
 use crate::counts::count_on;
 use crate::items::{is_up_at, since_line, to_line};
@@ -9,6 +10,7 @@ use crate::packets::present_items;
 use crate::prefix::Prefix;
 use e3_readings::{RecoveryRound, add_undecided_in, life_of, rounds_of};
 use e3_types::{Act, Entry, Input, Item, List, NoMemory, SiteSet, Txn};
+use e3_world::Incarnation;
 use std::alloc::Global;
 
 // Those of the group that are up.
@@ -102,19 +104,37 @@ fn first_up(history: &[Entry], rounds: &[RecoveryRound]) -> Option<RecoveryRound
     None
 }
 
+// Adds the undecided transactions that a site knows in this incarnation.
+fn add_open_of(
+    alloc: Global,
+    site: u32,
+    incarnation: &Incarnation,
+    out: &mut List<Txn>,
+) -> Result<(), NoMemory>
+    ensures { IfOk result (λ u. out.new ≡ out.old ++ undecided_in site (life_of incarnation.now)) }
+{
+    count_on(incarnation.since.len())?;
+    let life = life_of(
+        alloc,
+        incarnation.rose.as_slice(),
+        incarnation.since.as_slice(),
+    )?;
+    let added = add_undecided_in(alloc, site, &life, out);
+    // (handed to `drop`, it is given back by one call)
+    drop(life);
+    added
+}
+
 impl Prefix<'_> {
     // Adds the undecided transactions that a site knows.
     fn add_open(&self, site: u32, out: &mut List<Txn>) -> Result<(), NoMemory>
         ensures { IfOk result (λ u. out.new ≡ out.old ++ open_at self.now.scenario.now self.now.entries.now site) }
     {
         let incarnation = self.incarnation_at(site)?;
-        count_on(incarnation.since.len())?;
-        let life = life_of(
-            self.alloc,
-            incarnation.rose.as_slice(),
-            incarnation.since.as_slice(),
-        )?;
-        add_undecided_in(self.alloc, site, &life, out)
+        let added = add_open_of(self.alloc, site, &incarnation, out);
+        // (handed to `drop`, it is given back by one call)
+        drop(incarnation);
+        added
     }
 
     // The undecided transactions that these sites know, some more than once.

@@ -2,7 +2,7 @@
 ghost use Rattle.std.specs.Prelude.{◌≡◌, ◌++◌, ◌∷◌, [], Option, Some, None, fold, map, suc, length, ◌+◌, IfOk, OnOk};
 ghost use Rattle.e3_types.specs.declared.entries.Act.TheVariants as act;
 ghost use Rattle.e3_world.specs.Lives.{incarnation_of, present_log};
-ghost use Rattle.e3_world.specs.Moves.{left_by, log_of, moves_of, open_tail, own_entries, unnumbered, unnumbered_input, rise_records};
+ghost use Rattle.e3_world.specs.Moves.{birth, left_by, log_of, moves_of, open_tail, own_entries, unnumbered, unnumbered_input, rise_records};
 ghost use Rattle.e3_world.specs.Legal.{entry_of, made_by, numbered};
 ghost use Rattle.e3_world.specs.Packets.{sent};
 ghost use Rattle.e3_judge.specs.Standing.{kept_in, nothing_yet, standing_by};
@@ -16,6 +16,7 @@ use e3_types::{Act, Copied, Entry, Input, List, NoMemory, Packet, Record, Scenar
 use e3_world::{Incarnation, Made, SiteStep};
 use std::alloc::Global;
 use std::marker::Model;
+use std::mem;
 
 /// Records that may or may not be on the disk, with the inputs that made them.
 #[derive(Drop)]
@@ -44,7 +45,8 @@ fn unnumbered_outs(alloc: Global, outs: &[Packet]) -> Result<List<Packet>, NoMem
 {
     let mut out = List::new(alloc);
     for p in outs {
-        out.push(unnumbered(p))?;
+        let packet = unnumbered(p);
+        out.push(packet)?;
     }
     Ok(out)
 }
@@ -54,7 +56,8 @@ fn unnumbered_inputs(alloc: Global, inputs: &[Input]) -> Result<List<Input>, NoM
 {
     let mut out = List::new(alloc);
     for i in inputs {
-        out.push(unnumbered_input(i))?;
+        let input = unnumbered_input(i);
+        out.push(input)?;
     }
     Ok(out)
 }
@@ -92,6 +95,20 @@ fn take_in_tail(alloc: Global, standing: &mut Standing, kept: bool) -> Result<()
     }
 }
 
+// The birth of a site.
+fn birth(alloc: Global, scenario: &Scenario, site: u32) -> Result<Record, NoMemory>
+    ensures { IfOk result (λ r. r ≡ birth scenario.now site) }
+{
+    let weights = scenario.weights.copied(alloc)?;
+    let rows = rows_at(alloc, site, scenario.rows.as_slice())?;
+    Ok(Record::Birth {
+        format: 1,
+        site,
+        weights,
+        rows,
+    })
+}
+
 // The records of a rise: its incarnation, with the birth before it where the log was empty.
 fn rise_records(
     alloc: Global,
@@ -104,12 +121,8 @@ fn rise_records(
 {
     let mut records = List::new(alloc);
     if log.is_empty() {
-        records.push(Record::Birth {
-            format: 1,
-            site,
-            weights: scenario.weights.copied(alloc)?,
-            rows: rows_at(alloc, site, scenario.rows.as_slice())?,
-        })?;
+        let birth = birth(alloc, scenario, site)?;
+        records.push(birth)?;
     }
     records.push(Record::Inc { inc })?;
     Ok(records)
@@ -135,11 +148,14 @@ fn step_kept(
 ) -> Result<SiteStep, NoMemory>
     ensures { IfOk result (λ s. s ≡ record { input = unnumbered_input input.now; records = records.now; outs = map unnumbered outs.now; told = told.now }) }
 {
+    let records = records.copied(alloc)?;
+    let outs = unnumbered_outs(alloc, outs.as_slice())?;
+    let told = told.copied(alloc)?;
     Ok(SiteStep {
         input: unnumbered_input(input),
-        records: records.copied(alloc)?,
-        outs: unnumbered_outs(alloc, outs.as_slice())?,
-        told: told.copied(alloc)?,
+        records,
+        outs,
+        told,
     })
 }
 
@@ -155,7 +171,7 @@ fn fall(
 {
     let inputs = unnumbered_inputs(alloc, inputs.as_slice())?;
     let records = records.copied(alloc)?;
-    standing.tail = left_by(why, inputs, records);
+    drop(mem::replace(&mut standing.tail, left_by(why, inputs, records)));
     Ok(())
 }
 
@@ -187,8 +203,8 @@ fn rise(
     take_in_tail(alloc, standing, kept)?;
     let records = risen_with(alloc, scenario, site, inc, &standing.incarnation)?;
     let now = risen(alloc, &standing.incarnation, records.as_slice())?;
-    standing.incarnation = now;
-    standing.tail = None;
+    drop(mem::replace(&mut standing.incarnation, now));
+    drop(mem::replace(&mut standing.tail, None));
     Ok(())
 }
 
@@ -206,7 +222,7 @@ fn rise_and_fall(
 {
     take_in_tail(alloc, standing, kept)?;
     let records = risen_with(alloc, scenario, site, inc, &standing.incarnation)?;
-    standing.tail = left_by(why, List::new(alloc), records);
+    drop(mem::replace(&mut standing.tail, left_by(why, List::new(alloc), records)));
     Ok(())
 }
 
@@ -334,20 +350,34 @@ impl Prefix<'_> {
         )
     }
 
+    // These packets with the next numbers.
+    fn next_outs(&self, outs: &[Packet]) -> Result<List<Packet>, NoMemory>
+        ensures { IfOk result (λ packets. packets ≡ numbered (suc (length (sent self.now.entries.now))) outs.now) }
+    {
+        let first = first_free(self.entries)?;
+        numbered(self.alloc, first, outs)
+    }
+
     /// The step entry of an input that comes to the site now: its packets have the next numbers.
     pub fn entry_of(&self, site: u32, input: &Input) -> Result<Entry, NoMemory>
         ensures { IfOk result (λ entry. entry ≡ entry_of self.now.scenario.now self.now.entries.now site input.now) }
     {
-        let made = self.made_by(site, input)?;
-        let first = first_free(self.entries)?;
-        let outs = numbered(self.alloc, first, made.outs.as_slice())?;
+        let Made {
+            records,
+            outs: unnumbered,
+            told,
+            own,
+        } = self.made_by(site, input)?;
+        drop(own);
+        let outs = self.next_outs(unnumbered.as_slice())?;
+        drop(unnumbered);
         Ok(Entry {
             owner: site,
             act: Act::Step {
                 input: input.copy(),
-                records: made.records,
+                records,
                 outs,
-                told: made.told,
+                told,
             },
         })
     }

@@ -168,13 +168,28 @@ fn add_one<D: Disk>(
 {
     reserve(&mut batch.steps)?;
     let draft = planned(shared.alloc(), site, input)?;
-    let Some(longer) = one_more(shared, number, site, log, spare, batch, &draft)? else {
-        return Ok(false);
-    };
-    let step = step_of(number, input.copy(), site.apply(draft.plan));
-    batch.steps.push_reserved(step);
-    lengthen(batch, longer);
-    Ok(true)
+    match one_more(shared, number, site, log, spare, batch, &draft) {
+        Ok(more) => match more {
+            Some(longer) => {
+                let Draft { plan, body, inputs } = draft;
+                drop(body);
+                drop(inputs);
+                let step = step_of(number, input.copy(), site.apply(plan));
+                batch.steps.push_reserved(step);
+                lengthen(batch, longer);
+                Ok(true)
+            }
+            None => {
+                drop(draft);
+                Ok(false)
+            }
+        },
+        // Handed to `drop`, the draft is given back by one call.
+        Err(fault) => {
+            drop(draft);
+            Err(fault)
+        }
+    }
 }
 
 // These inputs, one behind the other, up to the first that is refused or that the frame has no room for: how many were added. A

@@ -29,14 +29,19 @@ fn parts_of(alloc: Global, plan: &Plan, input: &Input) -> Result<(List<u8>, List
     Ok((body, inputs))
 }
 
-// The draft of this plan. What it has beside the plan is made while the plan is only borrowed, so that a refusal has no plan to
-// give back.
+// The draft of this plan.
 fn draft_of(alloc: Global, plan: Plan, input: &Input) -> Result<Draft, NoMemory>
     ensures plan { IfOk result (λ draft. draft.plan ≡ plan) }
     ensures draft { IfOk result (IsDraft input.now) }
 {
-    let (body, inputs) = parts_of(alloc, &plan, input)?;
-    Ok(Draft { plan, body, inputs })
+    match parts_of(alloc, &plan, input) {
+        Ok((body, inputs)) => Ok(Draft { plan, body, inputs }),
+        // Handed to `drop`, the plan is given back by one call.
+        Err(fault) => {
+            drop(plan);
+            Err(fault)
+        }
+    }
 }
 
 /// Takes all memory that the step of an input may want at a site in this incarnation, and for its entry.
@@ -48,8 +53,13 @@ pub(crate) fn planned(alloc: Global, site: &mut Site, input: &Input) -> Result<D
     ensures still { IsAsBefore site.old site.new }
 {
     let plan = site.plan(input)?;
-    site.ready(&plan)?;
-    draft_of(alloc, plan, input)
+    match site.ready(&plan) {
+        Ok(()) => draft_of(alloc, plan, input),
+        Err(fault) => {
+            drop(plan);
+            Err(fault)
+        }
+    }
 }
 
 /// Takes all memory that the step of an input may want at the site, and for its entry. The records that the site rose with and

@@ -76,14 +76,29 @@ fn log_rise<D: Disk + Drop>(
     let mut logged = rise.read;
     let (records, body) = (rise.records.as_slice(), rise.body.as_slice());
     match write(&mut log, &mut logged, &short, records, body) {
-        Ok(()) => (
-            State::Up(rise.up, log, rise.rose, logged),
-            Raised::Risen { kept, inc },
-        ),
-        Err(why) => (
-            State::Down(log.into_disk(), logged),
-            Raised::Failed { kept, inc, why },
-        ),
+        Ok(()) => {
+            let Readied {
+                up,
+                rose,
+                records,
+                body,
+                ..
+            } = rise;
+            drop(records);
+            drop(body);
+            (
+                State::Up(up, log, rose, logged),
+                Raised::Risen { kept, inc },
+            )
+        }
+        Err(why) => {
+            // Handed to `drop`, it is given back by one call.
+            drop(rise);
+            (
+                State::Down(log.into_disk(), logged),
+                Raised::Failed { kept, inc, why },
+            )
+        }
     }
 }
 
@@ -113,7 +128,10 @@ fn shorten_and_log<D: Disk + Drop>(
     logs_are_sound();
     match shorten_read(wish, &log, &rise) {
         Ok(short) => log_rise(log, rise, short),
-        Err(fault) => (State::Down(log.into_disk(), logged), raised_by(fault)),
+        Err(fault) => {
+            drop(rise);
+            (State::Down(log.into_disk(), logged), raised_by(fault))
+        }
     }
 }
 

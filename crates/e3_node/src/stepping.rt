@@ -69,6 +69,24 @@ pub(crate) fn fall_of(owner: u32, inputs: List<Input>, records: List<Record>, wh
     Entry { owner, act }
 }
 
+/// The entry of a fall over the step of this draft.
+pub(crate) fn fall_over(owner: u32, draft: Draft, why: Why) -> Entry
+    ensures { result ≡ record { owner = owner; act = act.Fall draft.inputs draft.plan.step.records why } }
+{
+    let Draft { plan, body, inputs } = draft;
+    drop(body);
+    let SiteStep {
+        input,
+        records,
+        outs,
+        told,
+    } = plan.into_step();
+    drop(input);
+    drop(outs);
+    drop(told);
+    fall_of(owner, inputs, records, why)
+}
+
 // Claims a place for the step of this draft, and answers what the log is turned to for its frame, if it is.
 fn claim_place<D: Disk>(
     number: u32,
@@ -139,22 +157,40 @@ fn step<D: Disk>(
 {
     logs_are_sound();
     if is_full(shared) {
+        // Handed to `drop`, a value is given back by one call.
+        drop(input);
         return Err(InputFault::HistoryFull);
     }
-    let draft = prepare(site, rose, &input, shared)?;
-    let short = claim_place(number, site, log, shared, &draft)?;
-    let (records, body) = (draft.plan.records(), draft.body.as_slice());
-    match write(log, logged, &short, records, body) {
-        Ok(()) => {
-            let step = step_of(number, input, site.apply(draft.plan));
-            enter(shared, step);
-            Ok(())
-        }
-        Err(why) => {
-            let made = draft.plan.into_step();
-            let fall = fall_of(number, draft.inputs, made.records, why);
-            enter(shared, fall);
-            Err(InputFault::Fell { why })
+    match prepare(site, rose, &input, shared) {
+        Ok(draft) => match claim_place(number, site, log, shared, &draft) {
+            Ok(short) => {
+                let (records, body) = (draft.plan.records(), draft.body.as_slice());
+                match write(log, logged, &short, records, body) {
+                    Ok(()) => {
+                        let Draft { plan, body, inputs } = draft;
+                        drop(body);
+                        drop(inputs);
+                        let step = step_of(number, input, site.apply(plan));
+                        enter(shared, step);
+                        Ok(())
+                    }
+                    Err(why) => {
+                        drop(input);
+                        let fall = fall_over(number, draft, why);
+                        enter(shared, fall);
+                        Err(InputFault::Fell { why })
+                    }
+                }
+            }
+            Err(fault) => {
+                drop(draft);
+                drop(input);
+                Err(fault)
+            }
+        },
+        Err(_) => {
+            drop(input);
+            Err(InputFault::NoMemory)
         }
     }
 }

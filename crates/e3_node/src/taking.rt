@@ -115,7 +115,16 @@ fn step_all<R: Wait, D: Disk>(
         batch.body.as_slice(),
     ) {
         Ok(()) => {
-            enter_steps(rt, wire, pass, batch.steps);
+            let Batch {
+                steps,
+                records,
+                body,
+                short,
+            } = batch;
+            drop(records);
+            drop(body);
+            drop(short);
+            enter_steps(rt, wire, pass, steps);
             BatchEnd {
                 planned,
                 fell: None,
@@ -123,7 +132,16 @@ fn step_all<R: Wait, D: Disk>(
         }
         Err(why) => {
             let over = first_of(inputs, batch.steps.as_slice());
-            let fall = fall_of(number, over, batch.records, why);
+            let Batch {
+                steps,
+                records,
+                body,
+                short,
+            } = batch;
+            drop(steps);
+            drop(body);
+            drop(short);
+            let fall = fall_of(number, over, records, why);
             wire.commit_entry(rt, pass, fall);
             BatchEnd {
                 planned,

@@ -26,7 +26,7 @@ use crate::briefing::shorten;
 use crate::drafts::{Draft, prepare_by_turns};
 use crate::law::logs_are_sound;
 use crate::site_log::{Short, write};
-use crate::stepping::{fall_of, room_for, step_of};
+use crate::stepping::{fall_over, room_for, step_of};
 use crate::{InputFault, State};
 use e3_disk::Disk;
 use e3_log::Log;
@@ -113,21 +113,38 @@ fn step_by_turns<R: Wait, D: Disk>(
         (made_by (scenario_seen pass.old) (history_seen pass.old) number input).records log.old log.new) }
 {
     logs_are_sound();
-    let draft = prepare_by_turns(alloc, site, rose, &input, pass)?;
-    let short = claim_place_by_turns(rt, alloc, wire, pass, number, site, log, &draft)?;
-    must_rest(wire, pass);
-    let (records, body) = (draft.plan.records(), draft.body.as_slice());
-    match write(log, logged, &short, records, body) {
-        Ok(()) => {
-            let step = step_of(number, input, site.apply(draft.plan));
-            wire.commit_entry(rt, pass, step);
-            Ok(())
-        }
-        Err(why) => {
-            let made = draft.plan.into_step();
-            let fall = fall_of(number, draft.inputs, made.records, why);
-            wire.commit_entry(rt, pass, fall);
-            Err(InputFault::Fell { why })
+    match prepare_by_turns(alloc, site, rose, &input, pass) {
+        Ok(draft) => match claim_place_by_turns(rt, alloc, wire, pass, number, site, log, &draft) {
+            Ok(short) => {
+                must_rest(wire, pass);
+                let (records, body) = (draft.plan.records(), draft.body.as_slice());
+                match write(log, logged, &short, records, body) {
+                    Ok(()) => {
+                        let Draft { plan, body, inputs } = draft;
+                        drop(body);
+                        drop(inputs);
+                        let step = step_of(number, input, site.apply(plan));
+                        wire.commit_entry(rt, pass, step);
+                        Ok(())
+                    }
+                    // Handed to `drop`, a value is given back by one call.
+                    Err(why) => {
+                        drop(input);
+                        let fall = fall_over(number, draft, why);
+                        wire.commit_entry(rt, pass, fall);
+                        Err(InputFault::Fell { why })
+                    }
+                }
+            }
+            Err(fault) => {
+                drop(draft);
+                drop(input);
+                Err(fault)
+            }
+        },
+        Err(_) => {
+            drop(input);
+            Err(InputFault::NoMemory)
         }
     }
 }

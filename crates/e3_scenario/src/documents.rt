@@ -180,10 +180,18 @@ fn more_weights(alloc: Global, values: &[Value]) -> Result<Option<List<u32>>, No
 {
     let mut weights = List::new(alloc);
     for value in values {
-        let Some(weight) = weight(value) else {
-            return Ok(None);
-        };
-        weights.push(weight)?;
+        match weight(value) {
+            None => {
+                drop(weights);
+                return Ok(None);
+            }
+            Some(weight) => {
+                if weights.push(weight).is_err() {
+                    drop(weights);
+                    return Err(NoMemory);
+                }
+            }
+        }
     }
     Ok(Some(weights))
 }
@@ -219,7 +227,10 @@ fn row(all: SiteSet, text: &[u8]) -> Option<KeyRow>
 fn row_in(all: SiteSet, value: &Value) -> Option<KeyRow>
     ensures { result ≡ row_in all (view value.now) }
 {
-    row(all, value.as_str()?.as_bytes())
+    match value.as_str() {
+        Some(text) => row(all, text.as_bytes()),
+        None => None,
+    }
 }
 
 /// Rows at these sites.
@@ -228,12 +239,24 @@ pub fn rows(alloc: Global, all: SiteSet, values: &[Value]) -> Result<Option<List
     ensures { IfOk result (λ rows. rows ≡ more_rows all [] (map view values.now)) }
 {
     let mut rows = List::new(alloc);
-    rows.reserve(values.len() as u64)?;
+    // (handed to `drop`, they are given back by one call)
+    if rows.reserve(values.len() as u64).is_err() {
+        drop(rows);
+        return Err(NoMemory);
+    }
     for value in values {
-        let Some(row) = row_in(all, value) else {
-            return Ok(None);
-        };
-        rows.push(row)?;
+        match row_in(all, value) {
+            None => {
+                drop(rows);
+                return Ok(None);
+            }
+            Some(row) => {
+                if rows.push(row).is_err() {
+                    drop(rows);
+                    return Err(NoMemory);
+                }
+            }
+        }
     }
     Ok(Some(rows))
 }
@@ -243,14 +266,12 @@ fn number_at(table: &Table, key: &str, most: u64) -> Option<u64>
     ensures value { result ≡ number_at most (table_view table.now) key.now }
     ensures within { IfSome result (λ number. number ≤ most) }
 {
-    let Some(value) = value_at(table, key) else {
-        return Some(0);
-    };
-    let number = value.as_integer()?;
-    if 0 <= number && number as u64 <= most {
-        Some(number as u64)
-    } else {
-        None
+    match value_at(table, key) {
+        None => Some(0),
+        Some(value) => match value.as_integer() {
+            Some(number) if 0 <= number && number as u64 <= most => Some(number as u64),
+            _ => None,
+        },
     }
 }
 

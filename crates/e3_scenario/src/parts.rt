@@ -21,10 +21,13 @@ fn number(text: &[u8], most: u32) -> Option<u32>
     ensures within { IfSome result (λ n. n ≤ most) }
 {
     if has_leading_zero(text) {
-        return None;
+        None
+    } else {
+        match number_of_digits(text, u64::from(most)) {
+            Some(number) if 1 <= number => Some(number as u32),
+            _ => None,
+        }
     }
-    let number = number_of_digits(text, u64::from(most))? as u32;
-    if 1 <= number { Some(number) } else { None }
 }
 
 /// A SITE.
@@ -64,8 +67,10 @@ pub fn key(text: &[u8]) -> Option<Key>
     ensures { result ≡ key_of text.now }
 {
     let site = site(before(text, POINT))?;
-    let name = name_of(after(text, POINT)?)?;
-    Some(Key { site, name })
+    match after(text, POINT) {
+        Some(left) => name_of(left).map(|name| Key { site, name }),
+        None => None,
+    }
 }
 
 /// A COUNT.

@@ -18,6 +18,7 @@ use crate::steps::{Read, steps};
 use e3_types::{Item, KeyRow, List, NoMemory, Scenario, SiteSet};
 use e3_world::sites_to;
 use std::alloc::Global;
+use std::mem;
 use toml::{Table, Value};
 
 /// The most bytes that are read as a scenario.
@@ -89,7 +90,10 @@ fn all_steps(
     ensures { IfOk result (λ read. read ≡ steps_read all 1 (no_items_yet all) [] (map view values.now)) }
 {
     let mut so_far = SoFar::nothing(alloc, all)?;
-    steps(alloc, all, &mut so_far, values)
+    let read = steps(alloc, all, &mut so_far, values);
+    // (handed to `drop`, it is given back by one call)
+    drop(so_far);
+    read
 }
 
 // The steps of a scenario that is read but for them, or the first fault of its steps and rows.
@@ -116,15 +120,25 @@ fn steps_behind(
 fn fields(alloc: Global, table: &Table) -> Result<Read<Scenario>, NoMemory>
     ensures { IfOk result (λ read. read ≡ fields_in (table_view table.now)) }
 {
-    let mut scenario = match base(alloc, table)? {
-        Err(fault) => return Ok(Err(fault)),
-        Ok(base) => base,
-    };
-    match steps_behind(alloc, values_at(table, "steps"), &scenario)? {
+    match base(alloc, table)? {
         Err(fault) => Ok(Err(fault)),
-        Ok(steps) => {
-            scenario.steps = steps;
-            Ok(Ok(scenario))
+        Ok(base) => {
+            let mut scenario = base;
+            // (handed to `drop`, it is given back by one call)
+            match steps_behind(alloc, values_at(table, "steps"), &scenario) {
+                Err(NoMemory) => {
+                    drop(scenario);
+                    Err(NoMemory)
+                }
+                Ok(Err(fault)) => {
+                    drop(scenario);
+                    Ok(Err(fault))
+                }
+                Ok(Ok(steps)) => {
+                    drop(mem::replace(&mut scenario.steps, steps));
+                    Ok(Ok(scenario))
+                }
+            }
         }
     }
 }

@@ -90,6 +90,16 @@ impl SoFar {
         self.parts.as_slice().iter().any(|part| sites.within(*part))
     }
 
+    // The network has these parts from now on.
+    fn set_parts(&mut self, alloc: Global, parts: &[SiteSet]) -> Result<(), NoMemory>
+        ensures { OnOk result (self.new ≡ record self.old { parts = parts.now }) }
+    {
+        let mut now = List::new(alloc);
+        now.extend(parts)?;
+        self.parts = now;
+        Ok(())
+    }
+
     /// One more item is taken in.
     pub fn take_item(&mut self, alloc: Global, all: SiteSet, item: &Item) -> Result<(), NoMemory>
         ensures { OnOk result (self.new ≡ take_item all self.old item.now) }
@@ -101,18 +111,8 @@ impl SoFar {
             }),
             Item::Read { name, .. } => self.ops.push(name),
             Item::Write { name, .. } => self.ops.push(name),
-            Item::Split { parts } => {
-                let mut now = List::new(alloc);
-                now.extend(parts.as_slice())?;
-                self.parts = now;
-                Ok(())
-            }
-            Item::Merge => {
-                let mut now = List::new(alloc);
-                now.push(all)?;
-                self.parts = now;
-                Ok(())
-            }
+            Item::Split { parts } => self.set_parts(alloc, parts.as_slice()),
+            Item::Merge => self.set_parts(alloc, &[all]),
             _ => Ok(()),
         }
     }

@@ -1,6 +1,7 @@
 // The steps of a scenario.
-ghost use Rattle.std.specs.Prelude.{◌≡◌, ◌≤◌, [], ◌∷◌, IfOk, length, map};
+ghost use Rattle.std.specs.Prelude.{◌≡◌, ◌≤◌, ◌++◌, [], ◌∷◌, IfOk, OnOk, length, map};
 ghost use Rattle.toml.specs.View.{view};
+ghost use Rattle.e3_scenario.specs.Faults.{take_item};
 ghost use Rattle.e3_scenario.specs.Steps.{or_fault, judged, item_in, with_so_far, items_read, step_read, steps_read};
 
 use crate::documents::values;
@@ -47,6 +48,25 @@ fn item_in(alloc: Global, value: &Value) -> Result<Option<Item>, NoMemory>
     }
 }
 
+// One more item of a step is taken in.
+fn add_item(
+    alloc: Global,
+    all: SiteSet,
+    so_far: &mut SoFar,
+    items: &mut List<Item>,
+    item: Item,
+) -> Result<(), NoMemory>
+    ensures { OnOk result ((so_far.new ≡ take_item all so_far.old item) × (items.new ≡ items.old ++ item ∷ [])) }
+{
+    match so_far.take_item(alloc, all, &item) {
+        Ok(()) => items.push(item),
+        Err(NoMemory) => {
+            drop(item);
+            Err(NoMemory)
+        }
+    }
+}
+
 // The items of a step. Where one has a fault, what they come to is of no use any more.
 #[tactic(auto, using(crate::proofs::Values::next_value))]
 fn items(
@@ -64,13 +84,24 @@ fn items(
     };
     let mut items = List::from_vec(room);
     for value in values {
-        let spelled = item_in(alloc, value)?;
-        match judged(all, step, grouped, so_far, spelled) {
-            Err(fault) => return Ok(Err(fault)),
-            Ok(item) => {
-                so_far.take_item(alloc, all, &item)?;
-                items.push(item)?;
+        // (handed to `drop`, they are given back by one call)
+        match item_in(alloc, value) {
+            Err(NoMemory) => {
+                drop(items);
+                return Err(NoMemory);
             }
+            Ok(spelled) => match judged(all, step, grouped, so_far, spelled) {
+                Err(fault) => {
+                    drop(items);
+                    return Ok(Err(fault));
+                }
+                Ok(item) => {
+                    if add_item(alloc, all, so_far, &mut items, item).is_err() {
+                        drop(items);
+                        return Err(NoMemory);
+                    }
+                }
+            },
         }
     }
     Ok(Ok(items))

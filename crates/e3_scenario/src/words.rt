@@ -46,8 +46,10 @@ pub fn after(text: &[u8], mark: u8) -> Option<&[u8]>
     ensures value { option_copied result ≡ after mark text.now }
     ensures shorter { IfSome result (λ left. length left.now < length text.now) }
 {
-    let place = place_of(text, mark)?;
-    Some(&text[place + 1..])
+    match place_of(text, mark) {
+        Some(place) => Some(&text[place + 1..]),
+        None => None,
+    }
 }
 
 /// What stands behind the first `count` words and the space after each.

@@ -78,14 +78,32 @@ impl Plan {
         ensures kept { IfOk result (λ plan. plan.step ≡ step_kept input.now made) }
         ensures of_tables { IfOk result (λ plan. IsMadeOf tables.now plan.step plan.behind) }
     {
-        let outs = unnumbered_outs(alloc, made.outs.as_slice())?;
-        let step = kept(input, made, outs);
-        let made_of_them = behind(alloc, tables, &step)?;
-        Ok(Plan {
-            alloc,
-            step,
-            behind: made_of_them,
-        })
+        match unnumbered_outs(alloc, made.outs.as_slice()) {
+            Ok(outs) => Plan::of(alloc, tables, kept(input, made, outs)),
+            Err(NoMemory) => {
+                drop(made);
+                Err(NoMemory)
+            }
+        }
+    }
+
+    // The plan to do this step.
+    fn of(alloc: Global, tables: &Tables, step: SiteStep) -> Result<Plan, NoMemory>
+        requires { AreCountable tables.now.cards }
+        ensures kept { IfOk result (λ plan. plan.step ≡ step) }
+        ensures of_tables { IfOk result (λ plan. IsMadeOf tables.now plan.step plan.behind) }
+    {
+        match behind(alloc, tables, &step) {
+            Ok(behind) => Ok(Plan {
+                alloc,
+                step,
+                behind,
+            }),
+            Err(NoMemory) => {
+                drop(step);
+                Err(NoMemory)
+            }
+        }
     }
 
     /// The records that the step adds to the log, in their order.
@@ -113,15 +131,16 @@ impl Plan {
     pub fn entry(&self, owner: u32, input: &Input) -> Result<Entry, NoMemory>
         ensures { IfOk result (λ entry. entry ≡ entry_of_plan owner input.now self.now.step) }
     {
-        Ok(Entry {
-            owner,
-            act: Act::Step {
-                input: input.copy(),
-                records: self.step.records.copied(self.alloc)?,
-                outs: self.step.outs.copied(self.alloc)?,
-                told: self.step.told.copied(self.alloc)?,
-            },
-        })
+        let records = self.step.records.copied(self.alloc)?;
+        let outs = self.step.outs.copied(self.alloc)?;
+        let told = self.step.told.copied(self.alloc)?;
+        let act = Act::Step {
+            input: input.copy(),
+            records,
+            outs,
+            told,
+        };
+        Ok(Entry { owner, act })
     }
 
     /// What the step makes of the tables.
@@ -135,7 +154,9 @@ impl Plan {
     pub fn into_step(self) -> SiteStep
         ensures { result ≡ self.step }
     {
-        self.step
+        let Plan { step, behind, .. } = self;
+        drop(behind);
+        step
     }
 
     /// The step, and what it makes of the tables.

@@ -70,6 +70,9 @@ pub fn rebuild(alloc: Global, site: u32, records: &[Record]) -> Result<Site, Reb
     let tables = tables_of(alloc, site, records)?;
     match weights_of(alloc, records) {
         Ok(weights) => Ok(Site::rise(alloc, weights, site, tables)),
-        Err(NoMemory) => Err(RebuildFault::NoMemory),
+        Err(NoMemory) => {
+            drop(tables);
+            Err(RebuildFault::NoMemory)
+        }
     }
 }

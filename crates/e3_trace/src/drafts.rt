@@ -258,7 +258,13 @@ impl Draft {
         ensures { Gives result (entry_from self) }
     {
         let mut draft = self;
-        draft.finish(alloc)?;
-        Ok(draft.into_entry())
+        match draft.finish(alloc) {
+            Ok(()) => Ok(draft.into_entry()),
+            // (handed to `drop`, it is given back by one call)
+            Err(fault) => {
+                drop(draft);
+                Err(fault)
+            }
+        }
     }
 }

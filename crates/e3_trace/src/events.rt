@@ -86,29 +86,24 @@ fn event_by(known: &Known, txn: Txn, verb: &[u8], text: &[u8]) -> Result<Told, F
     ensures { Gives result (event_by known.now txn verb.now text.now) }
 {
     if is_text(verb, "op") {
-        let (n, answer) = <(u32, Answer)>::read(text)?;
-        Ok(Told::Op { txn, n, answer })
+        <(u32, Answer)>::read(text).map(|(n, answer)| Told::Op { txn, n, answer })
     } else if is_text(verb, "died") {
         let rest = behind(text, "for")?;
         let older = known.txn(rest)?;
         Ok(Told::Died { txn, older })
     } else if is_text(verb, "doomed") {
-        let (site, (had, now)) = <(u32, (u32, u32))>::read(text)?;
-        Ok(Told::Doomed {
+        <(u32, (u32, u32))>::read(text).map(|(site, (had, now))| Told::Doomed {
             txn,
             site,
             had,
             now,
         })
     } else if is_text(verb, "refused") {
-        let refusal = refusal(known, text)?;
-        Ok(Told::Refused { txn, refusal })
+        refusal(known, text).map(|refusal| Told::Refused { txn, refusal })
     } else if is_text(verb, "kept") {
-        let state = State::read(text)?;
-        Ok(Told::Kept { txn, state })
+        State::read(text).map(|state| Told::Kept { txn, state })
     } else if is_text(verb, "election") {
-        let (n, verdict) = <(u32, Verdict)>::read(text)?;
-        Ok(Told::Verdict { txn, n, verdict })
+        <(u32, Verdict)>::read(text).map(|(n, verdict)| Told::Verdict { txn, n, verdict })
     } else {
         Err(Fault::Bad)
     }

@@ -52,30 +52,41 @@ fn deciding_by(known: &Known, verb: &[u8], text: &[u8]) -> Result<Message, Fault
     ensures { Gives result (deciding_by known.now verb.now text.now) }
 {
     if is_text(verb, "ask") {
-        let (txn, (inc, seq)) = known.txn_and::<(u32, u32)>(text)?;
-        let call = Call { inc, seq };
-        Ok(Message::Ask { txn, call })
+        known.txn_and::<(u32, u32)>(text).map(|(txn, (inc, seq))| Message::Ask {
+            txn,
+            call: Call { inc, seq },
+        })
     } else if is_text(verb, "last") {
-        let (txn, (inc, (seq, elected))) = known.txn_and::<(u32, (u32, u32))>(text)?;
-        let call = Call { inc, seq };
-        Ok(Message::LastElected { txn, call, elected })
+        known.txn_and::<(u32, (u32, u32))>(text).map(|(
+            txn,
+            (inc, (seq, elected)),
+        )| Message::LastElected {
+            txn,
+            call: Call { inc, seq },
+            elected,
+        })
     } else if is_text(verb, "elected") {
-        let (txn, n) = known.txn_and::<u32>(text)?;
-        Ok(Message::Elected { txn, n })
+        known
+            .txn_and::<u32>(text)
+            .map(|(txn, n)| Message::Elected { txn, n })
     } else if is_text(verb, "report") {
-        let (txn, (n, (state, attempt))) = known.txn_and::<(u32, (State, u32))>(text)?;
-        Ok(Message::Report {
+        known.txn_and::<(u32, (State, u32))>(text).map(|(
+            txn,
+            (n, (state, attempt)),
+        )| Message::Report {
             txn,
             n,
             state,
             attempt,
         })
     } else if is_text(verb, "ack") {
-        let (txn, (n, dir)) = known.txn_and::<(u32, Dir)>(text)?;
-        Ok(Message::Ack { txn, n, dir })
+        known
+            .txn_and::<(u32, Dir)>(text)
+            .map(|(txn, (n, dir))| Message::Ack { txn, n, dir })
     } else if is_text(verb, "decide") {
-        let (txn, dir) = known.txn_and::<Dir>(text)?;
-        Ok(Message::Decide { txn, dir })
+        known
+            .txn_and::<Dir>(text)
+            .map(|(txn, dir)| Message::Decide { txn, dir })
     } else {
         Err(Fault::Bad)
     }

@@ -140,9 +140,19 @@ impl Past {
     {
         let mut entries = self.entries;
         let mut places = self.places;
-        make_room(&mut places, &mut entries, &entry)?;
-        entries.push(entry);
-        Ok(Past { entries, places })
+        match make_room(&mut places, &mut entries, &entry) {
+            Ok(()) => {
+                entries.push(entry);
+                Ok(Past { entries, places })
+            }
+            // (handed to `drop`, each is given back by one call)
+            Err(NoMemory) => {
+                drop(entry);
+                drop(entries);
+                drop(places);
+                Err(NoMemory)
+            }
+        }
     }
 
     fn packet_at(&self, number: u64) -> Option<Packet>

@@ -143,7 +143,8 @@ impl Reading {
             Some(draft) => {
                 let entry = draft.entry(alloc)?;
                 let past = mem::replace(&mut self.past, Past::nothing(alloc));
-                self.past = past.with(entry)?;
+                let grown = past.with(entry)?;
+                drop(mem::replace(&mut self.past, grown));
                 Ok(())
             }
         }
@@ -156,7 +157,7 @@ impl Reading {
         self.close(alloc)?;
         let owner = u32::read(word)?;
         let draft = form(alloc, &self.known, &self.past, owner, text)?;
-        self.draft = Some(draft);
+        drop(mem::replace(&mut self.draft, Some(draft)));
         Ok(())
     }
 
@@ -170,7 +171,7 @@ impl Reading {
                 match add_line(alloc, &mut self.known, &self.past, draft, word, text) {
                     Ok(()) => Ok(()),
                     Err(fault) => {
-                        self.draft = None;
+                        drop(self.draft.take());
                         Err(fault)
                     }
                 }

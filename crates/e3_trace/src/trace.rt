@@ -127,7 +127,12 @@ fn lines(alloc: Global, text: &[u8]) -> Result<History, TraceFault>
     ensures { Spells (λ h. h.entries) result (lines_read 1 nothing_read (pieces feed text.now)) }
 {
     match Reading::roomy(alloc, entries_in(text)) {
-        Ok(mut reading) => lines_with(alloc, &mut reading, text),
+        Ok(mut reading) => {
+            let history = lines_with(alloc, &mut reading, text);
+            // (handed to `drop`, it is given back by one call)
+            drop(reading);
+            history
+        }
         Err(NoMemory) => Err(TraceFault::NoMemory),
     }
 }

@@ -3,20 +3,15 @@
 use crate::texts::{cut, number};
 use e3_report::Page;
 use e3_scenario::{fault_line, read_scenario};
-use e3_types::{KeyRow, NoMemory, Scenario};
+use e3_types::{NoMemory, Scenario};
 use std::alloc::Global;
 
-// Adds bytes with a line feed for each semicolon.
-fn push_text(text: &mut Page, line: &[u8]) {
+/// The text of a line, with a line feed for each semicolon.
+pub fn text_of(alloc: Global, line: &[u8]) -> Page {
+    let mut text = Page::new(alloc);
     for byte in line {
         text.bytes(&[if *byte == b';' { b'\n' } else { *byte }]);
     }
-}
-
-/// The text of a line.
-pub fn text_of(alloc: Global, line: &[u8]) -> Page {
-    let mut text = Page::new(alloc);
-    push_text(&mut text, line);
     text
 }
 
@@ -67,7 +62,7 @@ fn push_repeated(
     for _ in 0..count {
         text.bytes(piece);
     }
-    push_text(&mut text, back);
+    text.page(&text_of(alloc, back));
     push_fault(alloc, page, &text);
 }
 
@@ -118,14 +113,6 @@ pub fn push_fronts(alloc: Global, page: &mut Page, line: &[u8]) {
     push_fault(alloc, page, &text);
 }
 
-fn push_row(page: &mut Page, row: &KeyRow) {
-    page.text("row ");
-    page.key(&row.key);
-    page.text(" ");
-    page.bytes(row.val.bytes());
-    page.text("\n");
-}
-
 // Adds the weights and the rows of a scenario.
 fn push_head(page: &mut Page, scenario: &Scenario) {
     for weight in scenario.weights.as_slice() {
@@ -133,7 +120,11 @@ fn push_head(page: &mut Page, scenario: &Scenario) {
         page.text("\n");
     }
     for row in scenario.rows.as_slice() {
-        push_row(page, row);
+        page.text("row ");
+        page.key(&row.key);
+        page.text(" ");
+        page.bytes(row.val.bytes());
+        page.text("\n");
     }
 }
 

@@ -19,13 +19,6 @@ fn lines_of(alloc: Global, scenario: &Scenario) -> Page {
     page
 }
 
-fn are_same_numbers(a: &Scenario, b: &Scenario) -> bool {
-    a.weights.as_slice() == b.weights.as_slice()
-        && a.loss == b.loss
-        && a.repeat == b.repeat
-        && a.luck == b.luck
-}
-
 /// Two scenarios are the same.
 pub fn is_same_scenario(alloc: Global, a: &Scenario, b: &Scenario) -> Result<bool, NoMemory> {
     let lines = lines_of(alloc, a);
@@ -33,5 +26,8 @@ pub fn is_same_scenario(alloc: Global, a: &Scenario, b: &Scenario) -> Result<boo
     if !lines.is_whole() || !others.is_whole() {
         return Err(NoMemory);
     }
-    Ok(are_same_numbers(a, b) && lines.as_slice() == others.as_slice())
+    let are_same = lines.as_slice() == others.as_slice();
+    let are_weights = a.weights.as_slice() == b.weights.as_slice();
+    let are_chances = a.loss == b.loss && a.repeat == b.repeat && a.luck == b.luck;
+    Ok(are_same && are_weights && are_chances)
 }

@@ -8,26 +8,17 @@ use e3_types::{List, NoMemory};
 use std::alloc::Global;
 use std::io::{self, ErrorKind, Read, Write};
 
-const LETTERS: &[u8] = b"abcdefghijklmnopqrstuvwxy";
-
-// The number of the call that fails; none for 0.
-fn list_of(alloc: Global, call: u64) -> Result<List<u64>, NoMemory> {
+// A list of the number of the call that fails.
+fn fails_at(alloc: Global, call: u64) -> Result<List<u64>, NoMemory> {
     let mut calls = List::new(alloc);
-    if call > 0 {
-        calls.push(call)?;
-    }
+    calls.push(call)?;
     Ok(calls)
 }
 
 // A source of three letters, two for a read, whose call of this number fails.
 fn source_of(alloc: Global, fails: u64) -> Result<MemSource, NoMemory> {
     let text = bytes_of(alloc, b"abc")?;
-    Ok(MemSource::new(text, 2, list_of(alloc, fails)?))
-}
-
-// A sink of this room, which takes ten bytes for a write, and whose call of this number fails.
-fn sink_of(alloc: Global, room: u64, fails: u64) -> Result<MemSink, NoMemory> {
-    MemSink::new(alloc, room, 10, list_of(alloc, fails)?)
+    Ok(MemSource::new(text, 2, fails_at(alloc, fails)?))
 }
 
 // Adds what one read gives.
@@ -77,10 +68,43 @@ fn push_reads(page: &mut Page, source: &mut MemSource) {
 }
 
 // Adds what a sink took of a text.
-fn push_letters(page: &mut Page, sink: &mut MemSink, text: &[u8]) {
+fn push_taken(page: &mut Page, sink: &mut MemSink, text: &[u8]) {
     push_written(page, sink, text);
     page.text(" ");
     push_hex(page, sink.written());
+}
+
+/// Adds what is read of a source whose call of this number fails: three reads where no bound is told, and else up to the bound.
+pub fn push_source(alloc: Global, page: &mut Page, fails: u64, most: u64) {
+    match source_of(alloc, fails) {
+        Ok(mut source) => {
+            if most == 0 {
+                push_reads(page, &mut source);
+            } else {
+                push_all(alloc, page, &mut source, most);
+            }
+        }
+        Err(NoMemory) => page.lack(),
+    }
+}
+
+/// Adds what is read up to a bound of a reader of std.
+pub fn push_standard(alloc: Global, page: &mut Page, most: u64) {
+    push_all(alloc, page, &mut StdSource::new(b"abc".as_slice()), most);
+}
+
+// A sink of this room, which takes ten bytes for a write, and whose call of this number fails.
+fn sink_of(alloc: Global, room: u64, fails: u64) -> Result<MemSink, NoMemory> {
+    MemSink::new(alloc, room, 10, fails_at(alloc, fails)?)
+}
+
+/// Adds what a sink of this room takes of a text, whose call of this number fails. 25 letters are written as ten, ten and five
+/// bytes: a fourth call is not made.
+pub fn push_sink(alloc: Global, page: &mut Page, room: u64, fails: u64, text: &[u8]) {
+    match sink_of(alloc, room, fails) {
+        Ok(mut sink) => push_taken(page, &mut sink, text),
+        Err(NoMemory) => page.lack(),
+    }
 }
 
 // A reader and writer whose first calls end with an error, and that takes a byte at a time until it is full.
@@ -129,77 +153,16 @@ impl Write for Halting {
     }
 }
 
-// Adds two reads over a reader whose first calls end so.
-fn push_halting_reads(page: &mut Page, kind: ErrorKind, times: u32) {
+/// Adds two reads over a reader and two writes over a writer, whose first calls end so.
+pub fn push_halting(page: &mut Page, kind: ErrorKind, times: u32) {
+    page.labelled("halts ", u64::from(times));
     let mut source = StdSource::new(Halting::new(kind, times));
     push_read(page, &mut source);
     push_read(page, &mut source);
-}
-
-// Adds two writes over a writer whose first calls end so.
-fn push_halting_writes(page: &mut Page, kind: ErrorKind, times: u32) {
+    page.text(", ");
     let mut sink = StdSink::new(Halting::new(kind, times));
     push_written(page, &mut sink, b"ab");
     page.text(" ");
     push_written(page, &mut sink, b"c");
-}
-
-// Adds both.
-fn push_halting(page: &mut Page, kind: ErrorKind, times: u32) {
-    page.labelled("halts ", u64::from(times));
-    push_halting_reads(page, kind, times);
-    page.text(", ");
-    push_halting_writes(page, kind, times);
     page.text("\n");
-}
-
-// Adds the lines of reads, of a source whose second call fails too.
-fn push_sources(alloc: Global, page: &mut Page) {
-    for fails in [0, 2] {
-        match source_of(alloc, fails) {
-            Ok(mut source) => push_reads(page, &mut source),
-            Err(NoMemory) => page.lack(),
-        }
-    }
-}
-
-// Adds the lines of reads up to a bound.
-fn push_bounds(alloc: Global, page: &mut Page) {
-    for (most, fails) in [(2, 2), (10, 4), (10, 2)] {
-        match source_of(alloc, fails) {
-            Ok(mut source) => push_all(alloc, page, &mut source, most),
-            Err(NoMemory) => page.lack(),
-        }
-    }
-    push_all(alloc, page, &mut StdSource::new(b"abc".as_slice()), 10);
-}
-
-// The rooms of sinks, their calls that fail, and what is written to them.
-static SINKS: [(u64, u64, &[u8]); 5] = [
-    (100, 4, LETTERS),
-    (100, 2, LETTERS),
-    (0, 99, LETTERS),
-    (4, 99, LETTERS),
-    (100, 1, b""),
-];
-
-// Adds the lines of sinks. The letters are written as ten, ten and five bytes: a fourth call is not made.
-fn push_sinks(alloc: Global, page: &mut Page) {
-    for (room, fails, text) in &SINKS {
-        match sink_of(alloc, *room, *fails) {
-            Ok(mut sink) => push_letters(page, &mut sink, text),
-            Err(NoMemory) => page.lack(),
-        }
-    }
-}
-
-/// Adds the lines of streams.
-pub fn push_lines(alloc: Global, page: &mut Page) {
-    push_sources(alloc, page);
-    push_bounds(alloc, page);
-    push_sinks(alloc, page);
-    for times in [0, 2, 1000, 1001] {
-        push_halting(page, ErrorKind::Interrupted, times);
-    }
-    push_halting(page, ErrorKind::BrokenPipe, 1);
 }

@@ -1,19 +1,20 @@
 // What the two tables of locks answer to the same calls, of several modes and names. The transactions are numbered in the order in
 // which they began: the first is the oldest.
-use crate::texts::{cut, parts_of, push_txn, push_word};
+//
+// A line of the input is `locks` with what the case shows, who leaves behind the calls, and the calls, as 3sa: transaction 3
+// asks for a shared lock on a; x for an exclusive lock, and r where a transaction leaves.
+use crate::texts::{parts_of, push_txn, push_word, small, txn_of};
 use e3_locks::{Granted, ListLocks, LockCall, LockTable, Locks, replay_locks};
 use e3_report::Page;
 use e3_types::{Grant, List, Mode, Name, NoMemory, SiteSet, Txn};
 use std::alloc::Global;
 
+// The names that are looked at behind the calls.
+static NAMES: [&[u8]; 3] = [b"a", b"ab", b"b"];
+
 // The transaction that begins as the n-th.
 fn txn(seq: u32) -> Txn {
-    Txn {
-        site: 1,
-        inc: 1,
-        seq,
-        sites: SiteSet::one(1),
-    }
+    txn_of(seq, SiteSet::one(1))
 }
 
 fn push_mode(page: &mut Page, mode: Mode) {
@@ -41,19 +42,35 @@ fn push_name(page: &mut Page, name: &Name) {
     page.bytes(name.bytes());
 }
 
+// Adds how these calls are answered.
+fn push_grants<L: Locks>(alloc: Global, page: &mut Page, locks: &mut L, calls: &[LockCall]) {
+    match replay_locks(alloc, locks, calls) {
+        Ok(grants) => {
+            for grant in grants.as_slice() {
+                push_grant(page, grant);
+            }
+        }
+        Err(NoMemory) => page.lack(),
+    }
+}
+
 // Adds how the middle one of five transactions would be answered on each name, in each mode.
-fn push_would<L: Locks>(page: &mut Page, locks: &L, names: &[Name]) {
+fn push_would<L: Locks>(page: &mut Page, locks: &L) {
     page.text("\n  asked by 1.1.3:");
-    for name in names {
-        push_name(page, name);
-        for mode in [Mode::Shared, Mode::Exclusive] {
-            push_grant(page, &locks.would(txn(3), name, mode));
+    for bytes in &NAMES {
+        if let Some(name) = Name::new(bytes) {
+            push_name(page, &name);
+            push_grant(page, &locks.would(txn(3), &name, Mode::Shared));
+            push_grant(page, &locks.would(txn(3), &name, Mode::Exclusive));
         }
     }
 }
 
-// Adds for whom a transaction waits.
+// Adds for whom a transaction waits, if for any.
 fn push_waits_of(page: &mut Page, waiter: &Txn, others: &[Txn]) {
+    if others.is_empty() {
+        return;
+    }
     page.text("\n  ");
     page.txn(waiter);
     page.text(" waits for");
@@ -62,19 +79,11 @@ fn push_waits_of(page: &mut Page, waiter: &Txn, others: &[Txn]) {
     }
 }
 
-fn waits_for<L: Locks>(locks: &L, waiter: Txn) -> Result<List<Txn>, NoMemory> {
-    locks.waits_for(waiter)
-}
-
 // Adds for whom each transaction waits that waits for any.
 fn push_waits<L: Locks>(page: &mut Page, locks: &L) {
     for seq in 1..6 {
-        match waits_for(locks, txn(seq)) {
-            Ok(others) => {
-                if !others.is_empty() {
-                    push_waits_of(page, &txn(seq), others.as_slice());
-                }
-            }
+        match locks.waits_for(txn(seq)) {
+            Ok(others) => push_waits_of(page, &txn(seq), others.as_slice()),
             Err(NoMemory) => page.lack(),
         }
     }
@@ -88,6 +97,17 @@ fn push_granted(page: &mut Page, granted: &[Granted]) {
     }
 }
 
+// Adds what the leave of a transaction grants, and lets it leave.
+fn push_leave<L: Locks>(page: &mut Page, locks: &mut L, leaver: u32) {
+    page.labelled("\n  without 1.1.", u64::from(leaver));
+    page.text(":");
+    match locks.grants_after(txn(leaver)) {
+        Ok(granted) => push_granted(page, granted.as_slice()),
+        Err(NoMemory) => page.lack(),
+    }
+    locks.release(txn(leaver));
+}
+
 // Adds who holds the name.
 fn push_holders<L: Locks>(page: &mut Page, locks: &L, name: &Name) {
     push_name(page, name);
@@ -99,67 +119,24 @@ fn push_holders<L: Locks>(page: &mut Page, locks: &L, name: &Name) {
     }
 }
 
-fn grants_after<L: Locks>(locks: &L, leaver: Txn) -> Result<List<Granted>, NoMemory> {
-    locks.grants_after(leaver)
-}
-
-fn release<L: Locks>(locks: &mut L, leaver: Txn) {
-    locks.release(leaver);
-}
-
-// Adds what the leave of a transaction grants, and lets it leave.
-fn push_leave<L: Locks>(page: &mut Page, locks: &mut L, leaver: u32) {
-    page.labelled("\n  without 1.1.", u64::from(leaver));
-    page.text(":");
-    match grants_after(locks, txn(leaver)) {
-        Ok(granted) => push_granted(page, granted.as_slice()),
-        Err(NoMemory) => page.lack(),
-    }
-    release(locks, txn(leaver));
-}
-
 // Adds who holds each name.
-fn push_held<L: Locks>(page: &mut Page, locks: &L, names: &[Name]) {
+fn push_held<L: Locks>(page: &mut Page, locks: &L) {
     page.text("\n  held then:");
-    for name in names {
-        push_holders(page, locks, name);
-    }
-}
-
-fn grants<L: Locks>(
-    alloc: Global,
-    locks: &mut L,
-    calls: &[LockCall],
-) -> Result<List<Grant>, NoMemory> {
-    replay_locks(alloc, locks, calls)
-}
-
-// Adds how these calls are answered.
-fn push_grants<L: Locks>(alloc: Global, page: &mut Page, locks: &mut L, calls: &[LockCall]) {
-    match grants(alloc, locks, calls) {
-        Ok(grants) => {
-            for grant in grants.as_slice() {
-                push_grant(page, grant);
-            }
+    for bytes in &NAMES {
+        if let Some(name) = Name::new(bytes) {
+            push_holders(page, locks, &name);
         }
-        Err(NoMemory) => page.lack(),
     }
 }
 
 // How these calls are answered, what stands then, what the leave of a transaction grants, and who holds each name behind it.
-fn answers<L: Locks + Drop>(
-    alloc: Global,
-    mut locks: L,
-    calls: &[LockCall],
-    leaver: u32,
-    names: &[Name],
-) -> Page {
+fn answers<L: Locks + Drop>(alloc: Global, mut locks: L, calls: &[LockCall], leaver: u32) -> Page {
     let mut page = Page::new(alloc);
     push_grants(alloc, &mut page, &mut locks, calls);
-    push_would(&mut page, &locks, names);
+    push_would(&mut page, &locks);
     push_waits(&mut page, &locks);
     push_leave(&mut page, &mut locks, leaver);
-    push_held(&mut page, &locks, names);
+    push_held(&mut page, &locks);
     page
 }
 
@@ -171,60 +148,33 @@ fn push_answers(page: &mut Page, label: &[u8], table: &str, answers: &Page) {
     page.text("\n");
 }
 
-// What the table of names answers.
-fn answers_by_names(
-    alloc: Global,
-    calls: &[LockCall],
-    leaver: u32,
-    names: &[Name],
-) -> Option<Page> {
-    match LockTable::new(alloc) {
-        Ok(table) => Some(answers(alloc, table, calls, leaver, names)),
-        Err(NoMemory) => None,
-    }
-}
-
-// Adds what both tables answer: once where they agree.
-fn push_compared(page: &mut Page, label: &[u8], plain: &Page, table: &Page) {
+// Adds what both tables answer to these calls and to the leave of a transaction behind them: once where they agree.
+fn push_both(alloc: Global, page: &mut Page, label: &[u8], calls: &[LockCall], leaver: u32) {
+    let Ok(table) = LockTable::new(alloc) else {
+        return page.lack();
+    };
+    let table = answers(alloc, table, calls, leaver);
+    let plain = answers(alloc, ListLocks::new(alloc), calls, leaver);
     if plain.as_slice() == table.as_slice() {
-        return push_answers(page, label, ", both tables:", plain);
-    }
-    push_answers(page, label, ", in lists:", plain);
-    push_answers(page, label, ", by names:", table);
-}
-
-// Adds what both tables answer to these calls and to the leave of a transaction behind them.
-fn push_case(
-    alloc: Global,
-    page: &mut Page,
-    label: &[u8],
-    calls: &[LockCall],
-    leaver: u32,
-    names: &[Name],
-) {
-    let plain = answers(alloc, ListLocks::new(alloc), calls, leaver, names);
-    match answers_by_names(alloc, calls, leaver, names) {
-        Some(table) => push_compared(page, label, &plain, &table),
-        None => page.lack(),
+        push_answers(page, label, ", both tables:", &plain);
+    } else {
+        push_answers(page, label, ", in lists:", &plain);
+        push_answers(page, label, ", by names:", &table);
     }
 }
 
-// The number that a digit spells.
-fn number(digit: u8) -> u32 {
-    u32::from(digit.saturating_sub(b'0'))
-}
-
-// A call: the number of a transaction, `s` or `x` for a shared or an exclusive request, and its name; or `r` for a release.
+// The call that a word says, if it says one.
 fn call_of(word: &[u8]) -> Option<LockCall> {
     let [seq, kind, rest @ ..] = word else {
         return None;
     };
-    let txn = txn(number(*seq));
+    let txn = txn(u32::from(seq.saturating_sub(b'0')));
     if *kind == b'r' {
         return Some(LockCall::Release { txn });
     }
     let name = Name::new(rest)?;
-    let mode = if *kind == b's' {
+    let is_shared = *kind == b's';
+    let mode = if is_shared {
         Mode::Shared
     } else {
         Mode::Exclusive
@@ -232,62 +182,22 @@ fn call_of(word: &[u8]) -> Option<LockCall> {
     Some(LockCall::Request { txn, name, mode })
 }
 
-// Adds the call that a word says, where it says one.
-fn push_call(calls: &mut List<LockCall>, word: &[u8]) -> Result<(), NoMemory> {
-    match call_of(word) {
-        Some(call) => calls.push(call),
-        None => Ok(()),
-    }
-}
-
 fn calls_of(alloc: Global, words: &[u8]) -> Result<List<LockCall>, NoMemory> {
     let mut calls = List::new(alloc);
     for word in &parts_of(alloc, words, b' ')? {
-        push_call(&mut calls, word)?;
+        if let Some(call) = call_of(word) {
+            calls.push(call)?;
+        }
     }
     Ok(calls)
 }
 
-// The names that are looked at behind the calls.
-static NAMES: [&[u8]; 3] = [b"a", b"ab", b"b"];
-
-fn names(alloc: Global) -> Option<List<Name>> {
-    let mut names = List::new(alloc);
-    for bytes in &NAMES {
-        if names.push(Name::new(bytes)?).is_err() {
-            return None;
+/// Adds the lines of a case.
+pub fn push_case(alloc: Global, page: &mut Page, label: &[u8], pieces: &[&[u8]]) {
+    if let [leaver, calls] = pieces {
+        match calls_of(alloc, calls) {
+            Ok(calls) => push_both(alloc, page, label, calls.as_slice(), small(leaver)),
+            Err(NoMemory) => page.lack(),
         }
-    }
-    Some(names)
-}
-
-// Adds the lines of a case: what it shows, who leaves behind the calls, and the calls.
-fn push_line(alloc: Global, page: &mut Page, line: &[u8], names: &[Name]) {
-    let (label, rest) = cut(line, b'|');
-    let (leaver, calls) = cut(rest, b'|');
-    let [leaver] = leaver else {
-        return;
-    };
-    match calls_of(alloc, calls) {
-        Ok(calls) => push_case(alloc, page, label, calls.as_slice(), number(*leaver), names),
-        Err(NoMemory) => page.lack(),
-    }
-}
-
-// Adds the lines of all cases.
-fn push_cases(alloc: Global, page: &mut Page, input: &[u8], names: &[Name]) {
-    let Ok(lines) = parts_of(alloc, input, b'\n') else {
-        return page.lack();
-    };
-    for line in lines.iter() {
-        push_line(alloc, page, line, names);
-    }
-}
-
-/// Adds the lines of locks.
-pub fn push_lines(alloc: Global, page: &mut Page, input: &[u8]) {
-    match names(alloc) {
-        Some(names) => push_cases(alloc, page, input, names.as_slice()),
-        None => page.lack(),
     }
 }

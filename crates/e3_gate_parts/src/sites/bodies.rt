@@ -11,7 +11,7 @@ use e3_report::Page;
 use e3_site::{Plan, RebuildFault, Site, rebuild};
 use e3_step::plain::step_of;
 use e3_types::{Act, Entry, Input, List, NoMemory, Record, Scenario, Txn};
-use e3_world::{Made, SiteStep};
+use e3_world::SiteStep;
 use std::alloc::Global;
 use std::slice;
 
@@ -21,19 +21,6 @@ fn push_both(page: &mut Page, by_tables: &Page, by_past: &Page) {
     if by_tables.as_slice() != by_past.as_slice() || !by_past.is_whole() {
         page.text("but by its past: ");
         page.page(by_past);
-    }
-}
-
-// The entry of a step.
-fn entry_of(owner: u32, input: &Input, made: Made) -> Entry {
-    Entry {
-        owner,
-        act: Act::Step {
-            input: input.copy(),
-            records: made.records,
-            outs: made.outs,
-            told: made.told,
-        },
     }
 }
 
@@ -50,7 +37,15 @@ fn lines_by_past(
 {
     let mut lines = Page::new(alloc);
     match step_of(alloc, weights, owner, rose, since, input) {
-        Ok(made) => lines.trace(slice::from_ref(&entry_of(owner, input, made))),
+        Ok(made) => {
+            let act = Act::Step {
+                input: input.copy(),
+                records: made.records,
+                outs: made.outs,
+                told: made.told,
+            };
+            lines.trace(slice::from_ref(&Entry { owner, act }));
+        }
         Err(NoMemory) => lines.lack(),
     }
     lines

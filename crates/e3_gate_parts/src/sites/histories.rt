@@ -1,10 +1,10 @@
 // What is due in a history, what its last step makes, what is found in it, and the rows of a site.
 use crate::texts::{push_count, push_txn};
 use e3_judge::{Prefix, clash, order, turn_of};
-use e3_readings::{RecoveryRound, rows_at};
+use e3_readings::rows_at;
 use e3_report::Page;
 use e3_step::plain::unnumbered_input;
-use e3_types::{Act, Copied, Entry, Input, Key, KeyRow, List, NoMemory, Row, Scenario};
+use e3_types::{Act, Copied, Entry, Input, KeyRow, List, NoMemory, Row, Scenario};
 use e3_world::History;
 use std::alloc::Global;
 use std::slice;
@@ -43,19 +43,16 @@ pub fn push_step(alloc: Global, page: &mut Page, scenario: &Scenario, history: &
     );
 }
 
-// Adds a round.
-fn push_round(page: &mut Page, round: &RecoveryRound) {
-    page.text(", round");
-    push_txn(page, &round.txn);
-    page.labelled(" by ", u64::from(round.elector));
-    page.text(" of ");
-    page.sites(round.members);
-}
-
 // Adds the round that is due.
 fn push_due(page: &mut Page, prefix: &Prefix<'_>) {
     match prefix.due_round() {
-        Ok(Some(round)) => push_round(page, &round),
+        Ok(Some(round)) => {
+            page.text(", round");
+            push_txn(page, &round.txn);
+            page.labelled(" by ", u64::from(round.elector));
+            page.text(" of ");
+            page.sites(round.members);
+        }
         Ok(None) => page.text(", no round"),
         Err(NoMemory) => page.lack(),
     }
@@ -80,17 +77,15 @@ pub fn push_history(page: &mut Page, all: &Prefix<'_>, site: u32) {
     push_due(page, all);
 }
 
-// Adds the transaction that is decided both ways.
-fn push_clash(alloc: Global, page: &mut Page, scenario: &Scenario, history: &History) {
+/// Adds the transaction that is decided both ways, and those that count as run, in their order.
+pub fn push_found(alloc: Global, page: &mut Page, scenario: &Scenario, history: &History) {
+    page.text(" decided both ways");
     match clash(alloc, scenario, history) {
         Ok(Some(txn)) => push_txn(page, &txn),
         Ok(None) => page.text(" -"),
         Err(NoMemory) => page.lack(),
     }
-}
-
-// Adds the transactions that count as run, in their order.
-fn push_order(alloc: Global, page: &mut Page, scenario: &Scenario, history: &History) {
+    page.text(", order");
     match order(alloc, scenario, history) {
         Ok(order) => {
             for t in order.as_slice() {
@@ -101,30 +96,15 @@ fn push_order(alloc: Global, page: &mut Page, scenario: &Scenario, history: &His
     }
 }
 
-/// Adds the transaction that is decided both ways, and those that count as run, in their order.
-pub fn push_found(alloc: Global, page: &mut Page, scenario: &Scenario, history: &History) {
-    page.text(" decided both ways");
-    push_clash(alloc, page, scenario, history);
-    page.text(", order");
-    push_order(alloc, page, scenario, history);
-}
-
-// The row's name with the last row's value.
-fn row_like(row: &KeyRow, last: &KeyRow) -> KeyRow {
-    let key = Key {
-        site: row.key.site,
-        name: row.key.name.copy(),
-    };
-    let val = last.val.copy();
-    KeyRow { key, val }
-}
-
 // The rows of a scenario, and behind them all names once more with the value of the last, which changes nothing.
 fn rows_twice(alloc: Global, scenario: &Scenario) -> Result<List<KeyRow>, NoMemory> {
     let mut rows = scenario.rows.copied(alloc)?;
     if let Some(last) = scenario.rows.as_slice().last() {
         for row in scenario.rows.as_slice() {
-            rows.push(row_like(row, last))?;
+            rows.push(KeyRow {
+                key: row.key.copy(),
+                val: last.val.copy(),
+            })?;
         }
     }
     Ok(rows)

@@ -2,7 +2,7 @@
 use crate::texts::push_count;
 use e3_judge::{since_line, to_line};
 use e3_report::Page;
-use e3_site::{RebuildFault, Site, first_disorder, rebuild};
+use e3_site::{RebuildFault, first_disorder, rebuild};
 use e3_types::{Act, Copied, Entry, List, NoMemory, Record};
 use std::alloc::Global;
 
@@ -11,13 +11,6 @@ fn records_of(entry: &Entry) -> &[Record] {
         Act::Step { records, .. } => records.as_slice(),
         _ => &[],
     }
-}
-
-fn push_site(page: &mut Page, site: &Site) {
-    page.labelled(" site ", u64::from(site.site()));
-    page.labelled(", incarnation ", u64::from(site.inc()));
-    page.labelled(", inputs ", u64::from(site.inputs()));
-    push_count(page, ", open ", site.open_txns());
 }
 
 fn push_place(page: &mut Page, place: Option<u64>) {
@@ -34,7 +27,10 @@ fn rebuilt(alloc: Global, page: &mut Page, site: u32, log: &[Record]) -> Option<
     }
     match rebuild(alloc, site, log) {
         Ok(site) => {
-            push_site(page, &site);
+            page.labelled(" site ", u64::from(site.site()));
+            page.labelled(", incarnation ", u64::from(site.inc()));
+            page.labelled(", inputs ", u64::from(site.inputs()));
+            push_count(page, ", open ", site.open_txns());
             None
         }
         Err(RebuildFault::Order { at }) => Some(at),

@@ -1,9 +1,7 @@
 // What is read off the log and the steps of a site, of each transaction that was begun.
 ghost use Rattle.std.specs.Prelude.{◌<◌, length};
 
-use crate::texts::push_count;
-use e3_commit::Acks;
-use e3_elect::Election;
+use crate::texts::{push_count, txn_of};
 use e3_judge::Prefix;
 use e3_readings::*;
 use e3_report::Page;
@@ -35,19 +33,15 @@ fn push_logged(page: &mut Page, t: &Txn, log: &[Record]) {
     page.state(state_of(t, log));
 }
 
-// Adds how many operations of a transaction were issued and done, and how many reasons are kept for its end.
-fn push_operations(alloc: Global, page: &mut Page, site: u32, t: &Txn, steps: &[Moment])
-    requires { length steps.now < 4294967295 }
+// Adds how many operations of a transaction were issued and done, how many reasons are kept for its end, and the operation that
+// is not answered.
+fn push_operations(alloc: Global, page: &mut Page, site: u32, t: &Txn, life: &Life)
+    requires { length life.now.steps < 4294967295 }
 {
+    let steps = life.steps.as_slice();
     push_count(page, ", issued ", issued(alloc, t, steps));
     push_count(page, ", done ", done(alloc, site, t, steps));
     push_count(page, ", kept reasons ", kept_reason(alloc, t, steps));
-}
-
-// Adds the operation that is not answered.
-fn push_unanswered(alloc: Global, page: &mut Page, t: &Txn, life: &Life)
-    requires { length life.now.steps < 4294967295 }
-{
     match unanswered(alloc, t, life.log.as_slice(), life.steps.as_slice()) {
         Ok(Some(n)) => page.labelled(", unanswered ", u64::from(n)),
         Ok(None) => page.text(", all answered"),
@@ -67,44 +61,32 @@ fn push_expected(alloc: Global, page: &mut Page, site: u32, t: &Txn, life: &Life
     page.labelled(" count ", u64::from(of.count));
 }
 
-// Adds what an elector has heard.
-fn push_heard(page: &mut Page, e: &Election) {
-    page.labelled("; election ", u64::from(e.joined_number().unwrap_or(0)));
-    push_flag(page, ", all heard ", e.all_heard());
-    push_flag(page, ", all reported ", e.complete());
-    page.labelled(", greatest ", u64::from(e.greatest_heard()));
-    page.labelled(", reports ", e.reports().len() as u64);
-}
-
 // Adds what an elector has heard, where an election is in progress.
 fn push_election(alloc: Global, page: &mut Page, site: u32, t: &Txn, life: &Life)
     requires { length life.now.steps < 4294967295 }
 {
     match election_in_progress(alloc, site, life.inc, t, life.steps.as_slice()) {
-        Ok(Some(e)) => push_heard(page, &e),
+        Ok(Some(e)) => {
+            page.labelled("; election ", u64::from(e.joined_number().unwrap_or(0)));
+            push_flag(page, ", all heard ", e.all_heard());
+            push_flag(page, ", all reported ", e.complete());
+            page.labelled(", greatest ", u64::from(e.greatest_heard()));
+            page.labelled(", reports ", e.reports().len() as u64);
+        }
         Ok(None) => {}
         Err(NoMemory) => page.lack(),
     }
 }
 
-// Adds a round that an attempt began.
-fn push_begun(page: &mut Page, r: &Acks) {
-    page.labelled("; round ", u64::from(r.number()));
-    page.labelled(", acknowledged ", r.arrivals().len() as u64);
-    page.labelled(" of ", u64::from(r.receivers().count()));
-    page.text(", to ");
-    page.dir(r.direction());
-}
-
-// Adds the round that an attempt began, where there is one.
-fn push_round(page: &mut Page, site: u32, t: &Txn, steps: &[Moment]) {
+// Adds the round that an attempt began, where there is one, and how many votes are missing, where votes are gathered.
+fn push_gathered(page: &mut Page, site: u32, t: &Txn, steps: &[Moment]) {
     if let Some(r) = round_in_progress(site, t, steps) {
-        push_begun(page, &r);
+        page.labelled("; round ", u64::from(r.number()));
+        page.labelled(", acknowledged ", r.arrivals().len() as u64);
+        page.labelled(" of ", u64::from(r.receivers().count()));
+        page.text(", to ");
+        page.dir(r.direction());
     }
-}
-
-// Adds how many votes are missing, where votes are gathered.
-fn push_votes(page: &mut Page, site: u32, t: &Txn, steps: &[Moment]) {
     if let Some(votes) = votes_in(site, t, steps) {
         page.labelled("; votes missing ", u64::from(votes.missing().count()));
     }
@@ -114,14 +96,11 @@ fn push_votes(page: &mut Page, site: u32, t: &Txn, steps: &[Moment]) {
 fn push_of(alloc: Global, page: &mut Page, site: u32, t: &Txn, life: &Life)
     requires { length life.now.steps < 4294967295 }
 {
-    let steps = life.steps.as_slice();
-    push_operations(alloc, page, site, t, steps);
-    push_unanswered(alloc, page, t, life);
+    push_operations(alloc, page, site, t, life);
     push_expected(alloc, page, site, t, life, 1);
     push_expected(alloc, page, site, t, life, 2);
     push_election(alloc, page, site, t, life);
-    push_round(page, site, t, steps);
-    push_votes(page, site, t, steps);
+    push_gathered(page, site, t, life.steps.as_slice());
     page.text("\n");
 }
 
@@ -138,16 +117,6 @@ fn push_held(alloc: Global, page: &mut Page, site: u32, t: &Txn, life: &Life, na
     }
 }
 
-// The transaction whose locks are looked at.
-fn first_txn() -> Txn {
-    Txn {
-        site: 1,
-        inc: 1,
-        seq: 1,
-        sites: SiteSet::one(1).with(2),
-    }
-}
-
 // Adds the row of a name, how many locks votes have on it, and the lock that the first transaction holds.
 fn push_row(alloc: Global, page: &mut Page, site: u32, life: &Life, table: &[Row], name: &Name)
     requires { length life.now.steps < 4294967295 }
@@ -157,7 +126,14 @@ fn push_row(alloc: Global, page: &mut Page, site: u32, life: &Life, table: &[Row
     page.answer(&row_value(name, table));
     let locks = voted_locks(alloc, name, life.log.as_slice());
     push_count(page, ", locks of votes ", locks);
-    push_held(alloc, page, site, &first_txn(), life, name);
+    push_held(
+        alloc,
+        page,
+        site,
+        &txn_of(1, SiteSet::one(1).with(2)),
+        life,
+        name,
+    );
 }
 
 // Adds the row of each of three names, and the table.
@@ -173,16 +149,6 @@ fn push_names(alloc: Global, page: &mut Page, site: u32, life: &Life, table: &[R
     page.rows(table);
 }
 
-// Adds the call that comes next.
-fn push_next(page: &mut Page, life: &Life)
-    requires { length life.now.steps < 4294967295 }
-{
-    let next = next_call(life.inc, life.steps.as_slice());
-    page.labelled(", next call ", u64::from(next.inc));
-    page.labelled(" ", u64::from(next.seq));
-    page.text("\n");
-}
-
 // Adds what a life says of no single transaction.
 fn push_life(alloc: Global, page: &mut Page, site: u32, life: &Life)
     requires { length life.now.steps < 4294967295 }
@@ -193,7 +159,10 @@ fn push_life(alloc: Global, page: &mut Page, site: u32, life: &Life)
     page.labelled(", steps ", life.steps.len());
     push_count(page, ", arrived ", arrivals(alloc, site, steps));
     push_count(page, ", waiting ", waiting(alloc, site, log, steps));
-    push_next(page, life);
+    let next = next_call(life.inc, steps);
+    page.labelled(", next call ", u64::from(next.inc));
+    page.labelled(" ", u64::from(next.seq));
+    page.text("\n");
 }
 
 // Adds what is read off a life, of each transaction that the history tells as begun, and off the log at present.

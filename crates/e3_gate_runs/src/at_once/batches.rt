@@ -9,6 +9,7 @@ use e3_fleet::Played;
 use e3_outside::OpenGate;
 use e3_report::Page;
 use e3_scenario::read_scenario;
+use e3_top::Ended;
 use e3_types::Scenario;
 use std::alloc::Global;
 use std::sync::Wait;
@@ -72,7 +73,9 @@ fn calls_at_end<R: Wait + Threads + Sync>(
     requires { IsGiven scenario.now }
 {
     let played = played_over(rt, alloc, scenario, CAPACITY, &OpenGate, THREADS, packets)?;
-    calls_behind(&played)
+    let calls = calls_behind(&played);
+    drop(played);
+    calls
 }
 
 // The text of the scenario of these steps.
@@ -93,14 +96,21 @@ pub fn scenario_of(alloc: Global, steps: &[&str]) -> Option<Scenario>
     read_scenario(alloc, text.as_slice()).ok()
 }
 
+// The calls of the disks that a run leaves; none where it was refused.
+fn calls_by(ended: &Ended<MemDisk>) -> Option<Calls> {
+    if ended.status != 0 {
+        return None;
+    }
+    calls_on(&ended.disks)
+}
+
 // The same by a run of the text of these steps, which says itself how many packets a worker takes.
 fn calls_run<R: Wait + Threads + Sync>(rt: &R, alloc: Global, steps: &[&str]) -> Option<Calls> {
     let text = text_of(alloc, steps).done()?;
     let ran = played(rt, alloc, &Given::of(text.as_slice()))?;
-    if ran.ended.status != 0 {
-        return None;
-    }
-    calls_on(&ran.ended.disks)
+    let calls = calls_by(&ran.ended);
+    drop(ran);
+    calls
 }
 
 // The calls by the end of the scenario of these steps, with so many packets in one turn of work, or by a run where no number is

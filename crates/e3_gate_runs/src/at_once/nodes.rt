@@ -51,6 +51,7 @@ fn plays_up_to<D: Disk + Drill + Drop, R: Wait>(
     let mut pass = pass;
     let mut shared = wire.take(rt, &mut pass);
     if !plays(alloc, &mut shared, node, other, STEPS) {
+        drop(shared);
         return None;
     }
     takes_at_once(rt, alloc, wire, &mut pass, shared, other, most)
@@ -162,7 +163,9 @@ fn taken_by<R: Wait>(
 {
     let mut other = other;
     let took = plays_copy(rt, alloc, scenario, node, &mut other, most);
-    let calls = disk_of(other).calls();
+    let disk = disk_of(other);
+    let calls = disk.calls();
+    drop(disk);
     match took {
         Some(packets) => Some(Counts { packets, calls }),
         None => None,
@@ -196,7 +199,11 @@ fn taken<R: Wait>(rt: &R, alloc: Global, scenario: &Scenario, most: u32) -> Opti
         return None;
     }
     match node_of(alloc, scenario, 1) {
-        Some(mut node) => taken_beside(rt, alloc, scenario, &mut node, most),
+        Some(mut node) => {
+            let counts = taken_beside(rt, alloc, scenario, &mut node, most);
+            drop(node);
+            counts
+        }
         None => None,
     }
 }
@@ -225,4 +232,5 @@ pub fn push_nodes<R: Wait>(rt: &R, alloc: Global, page: &mut Page) {
     for most in [0u32, 1, 8] {
         push_taken(rt, alloc, page, &scenario, most);
     }
+    drop(scenario);
 }

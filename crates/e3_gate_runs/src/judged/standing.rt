@@ -1,13 +1,21 @@
 // What the disks of a run read as, beside the logs of its history.
-use crate::judged::frames::open;
 use e3_codec::{RecordFault, put_records, read_records};
 use e3_disk::{Drill, MemDisk};
 use e3_judge::{Prefix, Tail};
-use e3_log::{Frame, OpenCause, OpenRefused};
+use e3_log::{Frame, Log, OpenCause, OpenRefused};
 use e3_report::Page;
 use e3_site::brief;
 use e3_types::{Entry, List, NoMemory, Record, Scenario};
 use std::alloc::Global;
+
+// Opens a log over a disk, to which it gives power.
+fn open<D: Drill + Drop>(
+    alloc: Global,
+    mut disk: D,
+) -> Result<(Log<D>, List<Frame>), OpenRefused<D>> {
+    disk.power_on();
+    Log::open(alloc, disk)
+}
 
 // The bodies of frames, one behind the other.
 fn bodies(alloc: Global, frames: &[Frame]) -> Page {

@@ -39,11 +39,17 @@ impl Auditor {
             return Ok(None);
         }
         let net = Net::of(alloc, scenario)?;
-        let seats = seats_of(alloc, sites as usize)?;
-        Ok(Some(Auditor {
-            lines: 0,
-            net,
-            seats,
-        }))
+        match seats_of(alloc, sites as usize) {
+            Ok(seats) => Ok(Some(Auditor {
+                lines: 0,
+                net,
+                seats,
+            })),
+            // (handed to `drop`, the network is given back by one call)
+            Err(NoMemory) => {
+                drop(net);
+                Err(NoMemory)
+            }
+        }
     }
 }

@@ -31,7 +31,10 @@ fn would_record(
     match being {
         Being::Up(up) => {
             let plan = plan_at(up, prefix, site, input)?;
-            Ok(same_list(records, plan.records()))
+            let would = same_list(records, plan.records());
+            // (handed to `drop`, it is given back by one call)
+            drop(plan);
+            Ok(would)
         }
         Being::Down => Ok(false),
     }

@@ -87,7 +87,12 @@ impl Auditor {
         }
         let items = step_items(prefix.scenario, number as u64);
         let asked = inputs_asked(prefix.alloc, binding, items)?;
-        self.begin(prefix, number, asked.as_slice())?;
-        Ok(true)
+        let begun = self.begin(prefix, number, asked.as_slice());
+        // (handed to `drop`, it is given back by one call)
+        drop(asked);
+        match begun {
+            Ok(()) => Ok(true),
+            Err(NoMemory) => Err(NoMemory),
+        }
     }
 }

@@ -70,12 +70,21 @@ fn take(up: &mut Site, prefix: &Prefix<'_>, step: &SeenStep<'_>) -> Result<bool,
     ensures stands { IfOk result (λ on. on ≡ true → StandsFor prefix.now.scenario.now (prefix.now.entries.now ++ entry_of prefix.now.scenario.now prefix.now.entries.now step.now.site step.now.input.now ∷ []) step.now.site up.new) }
 {
     let plan = plan_at(up, prefix, step.site, step.input)?;
+    // (handed to `drop`, a plan or a step is given back by one call)
     if !is_as_planned(&plan, step) {
+        drop(plan);
         return Ok(false);
     }
-    up.ready(&plan)?;
-    let _step = up.apply(plan);
-    Ok(true)
+    match up.ready(&plan) {
+        Ok(()) => {
+            drop(up.apply(plan));
+            Ok(true)
+        }
+        Err(NoMemory) => {
+            drop(plan);
+            Err(NoMemory)
+        }
+    }
 }
 
 // The site takes the step, where it is up, and what is kept of it goes on.

@@ -1,5 +1,5 @@
 // A walk over a history, entry by entry.
-ghost use Rattle.std.specs.Prelude.{◌≡◌, ◌≤◌, ◌++◌, ◌∷◌, [], true, length, IfOk};
+ghost use Rattle.std.specs.Prelude.{◌≡◌, ◌≤◌, ◌<◌, ◌+◌, ◌++◌, ◌∷◌, [], true, length, take, IfOk};
 ghost use Rattle.e3_judge.specs.audit.Seats.{Stands};
 ghost use Rattle.e3_judge.specs.audit.Walks.{IsWalked};
 ghost use Rattle.e3_readings.specs.Bindings.{bound_behind, nothing_bound};
@@ -112,6 +112,30 @@ impl Auditor {
     }
 }
 
+// Goes on over the entry at this place and over the names that it binds, where the entry is seen to be legal.
+fn pass(
+    auditor: &mut Auditor,
+    binding: &mut BoundNames,
+    alloc: Global,
+    scenario: &Scenario,
+    history: &[Entry],
+    at: usize,
+) -> Result<bool, NoMemory>
+    requires within { at < length history.now }
+    requires stands { Stands scenario.now (take at history.now) auditor.old }
+    requires bound { binding.old ≡ bound_behind scenario.now (take at history.now) }
+    ensures stands { IfOk result (λ on. on ≡ true → Stands scenario.now (take (at + 1) history.now) auditor.new) }
+    ensures bound { IfOk result (λ on. on ≡ true → binding.new ≡ bound_behind scenario.now (take (at + 1) history.now)) }
+{
+    let after = &history[..at + 1];
+    let prefix = Prefix::of(alloc, scenario, &history[..at]);
+    if !auditor.enter(&prefix, after, binding, &history[at])? {
+        return Ok(false);
+    }
+    bind(alloc, scenario, &history[at..at + 1], binding)?;
+    Ok(true)
+}
+
 // Walks over a history with what is kept of it and with the names that it binds, up to the first entry that is not seen to be
 // legal.
 fn walk_with(
@@ -126,15 +150,12 @@ fn walk_with(
     ensures { IfOk result (IsWalked scenario.now history.now) }
 {
     for at in 0..history.len() {
-        let after = &history[..at + 1];
-        let prefix = Prefix::of(alloc, scenario, &history[..at]);
-        if !auditor.enter(&prefix, after, binding, &history[at])? {
+        if !pass(auditor, binding, alloc, scenario, history, at)? {
             return Ok(Walked {
                 passed: at,
                 through: false,
             });
         }
-        bind(alloc, scenario, &history[at..at + 1], binding)?;
     }
     let through = auditor.is_through(&Prefix::of(alloc, scenario, history))?;
     Ok(Walked {
@@ -154,7 +175,11 @@ pub(crate) fn walk(
     match Auditor::start(alloc, scenario)? {
         Some(mut auditor) => {
             let mut binding = nothing_bound(alloc);
-            walk_with(&mut auditor, &mut binding, alloc, scenario, history)
+            let walked = walk_with(&mut auditor, &mut binding, alloc, scenario, history);
+            // (handed to `drop`, each is given back by one call)
+            drop(binding);
+            drop(auditor);
+            walked
         }
         None => Ok(Walked {
             passed: 0,

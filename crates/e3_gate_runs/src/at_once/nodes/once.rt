@@ -78,21 +78,27 @@ pub fn takes_at_once<D: Disk + Drill + Drop, R: Wait>(
     places_are_noted();
     shared.tell();
     if most > MOST || !is_delivering(alloc, &shared) {
+        drop(shared);
         return None;
     }
     let before = shared.history().len() as u64;
     let mut shared = shared;
-    let Ok(few) = shared.next_few(alloc, node.site(), most) else {
-        return None;
-    };
-    wire.put(pass, shared);
-    match deliveries(alloc, few) {
-        Some(inputs) => {
-            if inputs.is_empty() {
-                return Some(0);
+    match shared.next_few(alloc, node.site(), most) {
+        Ok(few) => {
+            wire.put(pass, shared);
+            match deliveries(alloc, few) {
+                Some(inputs) => {
+                    if inputs.is_empty() {
+                        return Some(0);
+                    }
+                    takes_all(rt, alloc, wire, pass, node, inputs, before)
+                }
+                None => None,
             }
-            takes_all(rt, alloc, wire, pass, node, inputs, before)
         }
-        None => None,
+        Err(_) => {
+            drop(shared);
+            None
+        }
     }
 }

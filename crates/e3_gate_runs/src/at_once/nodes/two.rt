@@ -16,13 +16,15 @@ use e3_wire::Shared;
 use std::alloc::Global;
 
 // The judge allows the entry.
-fn is_allowed(alloc: Global, shared: &Shared, entry: &Entry) -> bool
-    ensures { result ≡ true → Guard (scenario_of shared.now) (entries_of shared.now) entry.now }
+fn is_allowed(alloc: Global, shared: &Shared, entry: Entry) -> bool
+    ensures { result ≡ true → Guard (scenario_of shared.now) (entries_of shared.now) entry }
 {
     checks_are_exact();
     shared.tell();
     let before = Prefix::of(alloc, shared.scenario(), shared.history());
-    matches!(before.entry_breach(entry), Ok(None))
+    let breach = before.entry_breach(&entry);
+    drop(entry);
+    matches!(breach, Ok(None))
 }
 
 // The node rises.
@@ -37,7 +39,7 @@ fn rises<D: Disk + Drill + Drop>(
 {
     other_entries_keep_nodes::<D>();
     let (owner, act) = (node.site(), Act::Miss);
-    if !is_allowed(alloc, shared, &Entry { owner, act }) {
+    if !is_allowed(alloc, shared, Entry { owner, act }) {
         return false;
     }
     match node.rise(shared) {
@@ -59,7 +61,7 @@ fn enters_line<D: Disk + Drill + Drop>(
 {
     other_entries_keep_nodes::<D>();
     let (owner, act) = (0, Act::Line { number });
-    if !is_allowed(alloc, shared, &Entry { owner, act }) {
+    if !is_allowed(alloc, shared, Entry { owner, act }) {
         return false;
     }
     let entered = shared.line(number);
@@ -81,7 +83,7 @@ fn may_take<D: Disk + Drill + Drop>(
 {
     let before = Prefix::of(alloc, shared.scenario(), shared.history());
     match before.entry_of(node.site(), input) {
-        Ok(step) => is_allowed(alloc, shared, &step),
+        Ok(step) => is_allowed(alloc, shared, step),
         Err(_) => false,
     }
 }

@@ -1,4 +1,4 @@
-use Rattle.std.proofs.Common.{rules, ◌≡◌, ◌<◌, ◌+◌, ◌++◌, ◌∷◌, [], ℕ, List, Option, length, refl, sym, subst, ap, ◌∙◌, arith}
+use Rattle.std.proofs.Common.{rules, Bool, Err, ◌≡◌, ◌<◌, ◌+◌, ◌++◌, ◌∷◌, [], ℕ, List, Option, length, refl, sym, subst, ap, ◌∙◌, arith}
 use Rattle.std.specs.Prelude.{IfSome, None}
 use Rattle.e3_node.specs.declared.batching.Batch.{Batch}
 use Rattle.e3_node.specs.declared.batching.Lengthened.{Lengthened}
@@ -28,14 +28,14 @@ planned-requires g c =
     let Q : ℕ → Type 0 = λ n. length (now_with g.at.rose g.at.scenario h n).since < 4000000000 in
     (subst P (sym alike.site_is) alike.stands, subst Q (sym alike.site_is) (omega (arith, fewer, long, few)))
 
-pub returns-clause-added : goal.returns-clause-added
-returns-clause-added g c = λ yes.
+pub returns-in-Some-clause-added : goal.returns-in-Some-clause-added
+returns-in-Some-clause-added g c = λ yes.
     let d = c.in_ok-draft.draft in
     let b : Batch = record c.args.batch.now { steps = c.reserve.new.steps } in
     let is : IsLonger g.D.Disk.meaning.meters c.args.log.now b c.planned.new.site d c.in-Some.longer =
-    subst (λ (r : Option Lengthened). IfSome r (IsLonger g.D.Disk.meaning.meters c.args.log.now b c.planned.new.site d)) c.in-Some.is c.in_ok-longer.ensures.longer in
+    subst (λ (r : Option Lengthened). IfSome r (IsLonger g.D.Disk.meaning.meters c.args.log.now b c.planned.new.site d)) c.in-Some.is c.in-Ok.ensures.longer in
     let claimed : c.one_more.new.shared ≡ c.args.shared.now ++ mark.Place c.args.number (length d.plan.step.outs) ∷ [] =
-    subst (λ (r : Option Lengthened). IfSome r (λ _. c.one_more.new.shared ≡ c.args.shared.now ++ mark.Place c.args.number (length d.plan.step.outs) ∷ [])) c.in-Some.is c.in_ok-longer.ensures.claimed in
+    subst (λ (r : Option Lengthened). IfSome r (λ _. c.one_more.new.shared ≡ c.args.shared.now ++ mark.Place c.args.number (length d.plan.step.outs) ∷ [])) c.in-Some.is c.in-Ok.ensures.claimed in
     batch_added g.D.Disk.meaning.meters c.args.log.now g.at.scenario g.at.history g.at.site g.at.rose g.at.marks g.at.first g.at.done c.args.batch.now c.lengthen.new.batch c.args.site.now c.planned.new.site
     c.apply.new.self c.args.shared.now c.one_more.new.shared (length d.plan.step.outs) c.args.input.now d c.apply.result c.step_of-step.result c.in-Some.longer.short c.requires.1.1.1.0 c.requires.1.1.1.1.1.0
     c.requires.1.1.1.1.1.1.0 c.in_ok-draft.ensures.ready c.planned.ensures.still c.apply.ensures.step c.apply.ensures.stand
@@ -54,10 +54,10 @@ returns-clause-added g c = λ yes.
     (is.due l brief (λ empty. some (ap (λ (b : Batch). b.records) c.lengthen.ensures ∙ empty)) none))
     (claimed ∙ ap (λ (n : ℕ). c.args.shared.now ++ mark.Place n (length d.plan.step.outs) ∷ []) c.requires.1.1.0)
 
-pub returns-in_default-clause-full : goal.returns-in_default-clause-full
-returns-in_default-clause-full g c = λ no.
-    let is : c.in_ok-longer.field-0 ≡ None = search rules in
-    let full = c.in_ok-longer.ensures.full is in (
+pub returns-in-None-clause-full : goal.returns-in-None-clause-full
+returns-in-None-clause-full g c = λ no.
+    let is : c.in-Ok.more ≡ None = search rules in
+    let full = c.in-Ok.ensures.full is in (
       batch_same g.D.Disk.meaning.meters c.args.log.now g.at.scenario g.at.history g.at.site g.at.rose g.at.marks g.at.first g.at.done c.args.batch.now
           (record c.args.batch.now { steps = c.reserve.new.steps }) c.args.site.now c.planned.new.site
           c.args.shared.now c.one_more.new.shared c.requires.1.1.1.0 c.reserve.ensures.items refl refl refl c.planned.ensures.still full.1,
@@ -66,16 +66,16 @@ returns-in_default-clause-full g c = λ no.
           refl full.0.0 full.0.1 full.0.2,
     )
 
-pub returns-clause-most : goal.returns-clause-most
-returns-clause-most g c = ap most_of (subst (λ (r : Option Lengthened). IfSome r (λ _. c.one_more.new.shared ≡ c.args.shared.now ++ mark.Place c.args.number (length c.in_ok-draft.draft.plan.step.outs) ∷ [])) c.in-Some.is c.in_ok-longer.ensures.claimed) ∙ most_push c.args.shared.now c.args.number (length c.in_ok-draft.draft.plan.step.outs)
+pub returns-in-Some-clause-most : goal.returns-in-Some-clause-most
+returns-in-Some-clause-most g c = ap most_of (subst (λ (r : Option Lengthened). IfSome r (λ _. c.one_more.new.shared ≡ c.args.shared.now ++ mark.Place c.args.number (length c.in_ok-draft.draft.plan.step.outs) ∷ [])) c.in-Some.is c.in-Ok.ensures.claimed) ∙ most_push c.args.shared.now c.args.number (length c.in_ok-draft.draft.plan.step.outs)
 
-pub returns-clause-used : goal.returns-clause-used
-returns-clause-used g c =
-    let more : used_of c.one_more.new.shared ≡ used_of c.args.shared.now + 1 = ap used_of (subst (λ (r : Option Lengthened). IfSome r (λ _. c.one_more.new.shared ≡ c.args.shared.now ++ mark.Place c.args.number (length c.in_ok-draft.draft.plan.step.outs) ∷ [])) c.in-Some.is c.in_ok-longer.ensures.claimed) ∙ used_push c.args.shared.now c.args.number (length c.in_ok-draft.draft.plan.step.outs) c.requires.1.0 in
+pub returns-in-Some-clause-used : goal.returns-in-Some-clause-used
+returns-in-Some-clause-used g c =
+    let more : used_of c.one_more.new.shared ≡ used_of c.args.shared.now + 1 = ap used_of (subst (λ (r : Option Lengthened). IfSome r (λ _. c.one_more.new.shared ≡ c.args.shared.now ++ mark.Place c.args.number (length c.in_ok-draft.draft.plan.step.outs) ∷ [])) c.in-Some.is c.in-Ok.ensures.claimed) ∙ used_push c.args.shared.now c.args.number (length c.in_ok-draft.draft.plan.step.outs) c.requires.1.0 in
     omega (arith, more)
 
-pub returns-clause-owners : goal.returns-clause-owners
-returns-clause-owners g c = ap last_owner (subst (λ (r : Option Lengthened). IfSome r (λ _. c.one_more.new.shared ≡ c.args.shared.now ++ mark.Place c.args.number (length c.in_ok-draft.draft.plan.step.outs) ∷ [])) c.in-Some.is c.in_ok-longer.ensures.claimed) ∙ owners_push c.args.shared.now c.args.number (length c.in_ok-draft.draft.plan.step.outs)
+pub returns-in-Some-clause-owners : goal.returns-in-Some-clause-owners
+returns-in-Some-clause-owners g c = ap last_owner (subst (λ (r : Option Lengthened). IfSome r (λ _. c.one_more.new.shared ≡ c.args.shared.now ++ mark.Place c.args.number (length c.in_ok-draft.draft.plan.step.outs) ∷ [])) c.in-Some.is c.in-Ok.ensures.claimed) ∙ owners_push c.args.shared.now c.args.number (length c.in_ok-draft.draft.plan.step.outs)
 
 pub returns-in_err-reserve-clause-kept : goal.returns-in_err-reserve-clause-kept
 returns-in_err-reserve-clause-kept g c =
@@ -89,8 +89,8 @@ returns-in_err-draft-clause-kept g c =
     (batch_same g.D.Disk.meaning.meters c.args.log.now g.at.scenario g.at.history g.at.site g.at.rose g.at.marks g.at.first g.at.done c.args.batch.now (record c.args.batch.now { steps = c.reserve.new.steps }) c.args.site.now c.planned.new.site
     c.args.shared.now c.args.shared.now c.requires.1.1.1.0 c.reserve.ensures.items refl refl refl c.planned.ensures.still refl)
 
-pub returns-in_err-longer-clause-kept : goal.returns-in_err-longer-clause-kept
-returns-in_err-longer-clause-kept g c =
-    err_so c.from_residual-in_err-longer.result _
+pub returns-in-Err-clause-kept : goal.returns-in-Err-clause-kept
+returns-in-Err-clause-kept g c =
+    err_so {A = Bool} (Err c.in-Err.fault) _
     (batch_same g.D.Disk.meaning.meters c.args.log.now g.at.scenario g.at.history g.at.site g.at.rose g.at.marks g.at.first g.at.done c.args.batch.now (record c.args.batch.now { steps = c.reserve.new.steps }) c.args.site.now c.planned.new.site
-    c.args.shared.now c.one_more.new.shared c.requires.1.1.1.0 c.reserve.ensures.items refl refl refl c.planned.ensures.still c.in_err-longer.ensures.kept)
+    c.args.shared.now c.one_more.new.shared c.requires.1.1.1.0 c.reserve.ensures.items refl refl refl c.planned.ensures.still c.in-Err.ensures.kept)

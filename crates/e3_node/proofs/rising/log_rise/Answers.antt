@@ -22,8 +22,8 @@ returns-in-Ok-clause-makes g c = λ sc h wish logged bodies may is stands tells 
     (subst (λ (rs : List Record). IsLogged g.D.Disk.meaning wish.site (entries_at h wish.site + 1) (l ++ rs) c.write.new.logged c.write.new.log) c.as_slice-records.ensures wrote)
     c.in-Ok.ensures.lit
 
-pub returns-in-Err-clause-makes : goal.returns-in-Err-clause-makes
-returns-in-Err-clause-makes g c = λ sc h wish logged bodies may is stands tells is_short due.
+pub returns-clause-makes : goal.returns-clause-makes
+returns-clause-makes g c = λ sc h wish logged bodies may is stands tells is_short due.
     let at = g.met.D.Disk.reads_an_image c.args.log.disk in
     let l = log_with sc h wish.site c.args.rise.kept in
     let old = g.D.Disk.meaning.meters c.args.log.disk in

@@ -1,4 +1,4 @@
-use Rattle.std.proofs.Common.{◌≡◌, ◌++◌, ◌∷◌, [], ◌∙◌, ℕ, ap, refl, sym, subst, List, length, arith}
+use Rattle.std.proofs.Common.{◌≡◌, ◌++◌, ◌∷◌, [], ◌∙◌, ℕ, Err, ap, refl, sym, subst, List, length, arith}
 use Rattle.e3_laws.specs.local.Others.{numbered_on}
 use Rattle.e3_site.specs.StandsAlike.{IsLogInOrder}
 use Rattle.e3_node.specs.Bodies.{DiskTells, entries_at}
@@ -48,15 +48,15 @@ pub write-requires-clause-may : goal.write-requires-clause-may
 write-requires-clause-may g c =
     let p = c.args.pass.now in
     let h = history_seen p in
-    let cl = c.in_ok-short.ensures.claimed in
-    may_turn g.D.Disk.meaning h c.args.number (log_of (scenario_seen p) h c.args.number) c.args.logged.now c.args.log.now c.in_ok-short.short c.requires.up.logged
-    (claimed_entry p c.args.number cl.between c.requires.turns.owns cl.grew cl.played (λ all. cl.left all)) c.in_ok-short.ensures.body
+    let cl = c.in-Ok-claim_place_by_turns.ensures.claimed in
+    may_turn g.D.Disk.meaning h c.args.number (log_of (scenario_seen p) h c.args.number) c.args.logged.now c.args.log.now c.in-Ok-claim_place_by_turns.short c.requires.up.logged
+    (claimed_entry p c.args.number cl.between c.requires.turns.owns cl.grew cl.played (λ all. cl.left all)) c.in-Ok-claim_place_by_turns.ensures.body
 
 pub commit_entry-requires-clause-owns : goal.commit_entry-requires-clause-owns
 commit_entry-requires-clause-owns g c =
     let p = c.args.pass.now in
     let q = c.claim_place_by_turns.new.pass in
-    subst (λ (y : Entry). Owns q y.owner) (sym c.step_of-step.ensures) (still_owns p q c.args.number c.in_ok-short.ensures.same c.requires.turns.owns)
+    subst (λ (y : Entry). Owns q y.owner) (sym c.step_of-step.ensures) (still_owns p q c.args.number c.in-Ok-claim_place_by_turns.ensures.same c.requires.turns.owns)
 
 pub commit_entry-requires-clause-may : goal.commit_entry-requires-clause-may
 commit_entry-requires-clause-may g c =
@@ -64,17 +64,17 @@ commit_entry-requires-clause-may g c =
     let q = c.claim_place_by_turns.new.pass in
     let sc = scenario_seen p in
     let h = history_seen p in
-    let d = c.in_ok-draft.draft in
-    let made = draft_made sc h c.args.number c.args.site.now _ c.args.input d c.requires.up.stands c.in_ok-draft.ensures.ready in
+    let d = c.in-Ok.draft in
+    let made = draft_made sc h c.args.number c.args.site.now _ c.args.input d c.requires.up.stands c.in-Ok.ensures.ready in
     let due = taken_is_due sc h c.args.number c.args.input c.requires.turns.restless c.requires.due c.requires.takes in
-    let cl = c.in_ok-short.ensures.claimed in
+    let cl = c.in-Ok-claim_place_by_turns.ensures.claimed in
     let step : SiteStep = c.apply.result in
     let is : step ≡ step_kept c.args.input (made_by sc h c.args.number c.args.input) = c.apply.ensures.step ∙ made.step_is in
     let e : Entry = entry_of_plan c.args.number c.args.input step in
     let allows = step_allowed sc h c.args.number c.args.input step is c.requires.turns.some c.requires.up.up due in
     let fits : length step.outs ≡ length d.plan.step.outs = ap (λ (p : SiteStep). length p.outs) c.apply.ensures.step in
     let may : MayEnterBehind (seen_by q) e =
-    may_commit p (seen_by q) _ e cl.between c.requires.turns.owns cl.grew cl.played cl.is c.requires.turns.played c.in_ok-short.ensures.played c.requires.turns.some c.requires.turns.exists c.requires.turns.restless allows
+    may_commit p (seen_by q) _ e cl.between c.requires.turns.owns cl.grew cl.played cl.is c.requires.turns.played c.in-Ok-claim_place_by_turns.ensures.played c.requires.turns.some c.requires.turns.exists c.requires.turns.restless allows
     c.requires.takes (omega (arith, fits)) in
     subst (λ (y : Entry). MayEnterBehind (seen_by q) y) (sym c.step_of-step.ensures) may
 
@@ -82,55 +82,55 @@ pub commit_entry-requires-clause-alone : goal.commit_entry-requires-clause-alone
 commit_entry-requires-clause-alone g c = λ calm.
     let p = c.args.pass.now in
     let q = c.claim_place_by_turns.new.pass in
-    let cl = c.in_ok-short.ensures.claimed in
-    let restless = still_restless p (seen_by q) cl.between c.args.number _ c.requires.turns.owns cl.grew cl.played cl.is c.requires.turns.played c.in_ok-short.ensures.played c.requires.turns.restless in
+    let cl = c.in-Ok-claim_place_by_turns.ensures.claimed in
+    let restless = still_restless p (seen_by q) cl.between c.args.number _ c.requires.turns.owns cl.grew cl.played cl.is c.requires.turns.played c.in-Ok-claim_place_by_turns.ensures.played c.requires.turns.restless in
     absurd (let both = sym calm ∙ restless in cc)
 
-pub commit_entry-requires-in-Err-clause-owns : goal.commit_entry-requires-in-Err-clause-owns
-commit_entry-requires-in-Err-clause-owns g c =
+pub commit_entry-requires-in-Err-write-clause-owns : goal.commit_entry-requires-in-Err-write-clause-owns
+commit_entry-requires-in-Err-write-clause-owns g c =
     let p = c.args.pass.now in
     let q = c.claim_place_by_turns.new.pass in
-    subst (λ (y : Entry). Owns q y.owner) (sym c.fall_of-fall.ensures) (still_owns p q c.args.number c.in_ok-short.ensures.same c.requires.turns.owns)
+    subst (λ (y : Entry). Owns q y.owner) (sym c.fall_over-fall.ensures) (still_owns p q c.args.number c.in-Ok-claim_place_by_turns.ensures.same c.requires.turns.owns)
 
-pub commit_entry-requires-in-Err-clause-may : goal.commit_entry-requires-in-Err-clause-may
-commit_entry-requires-in-Err-clause-may g c =
+pub commit_entry-requires-in-Err-write-clause-may : goal.commit_entry-requires-in-Err-write-clause-may
+commit_entry-requires-in-Err-write-clause-may g c =
     let p = c.args.pass.now in
     let q = c.claim_place_by_turns.new.pass in
     let sc = scenario_seen p in
     let h = history_seen p in
-    let d = c.in_ok-draft.draft in
-    let made = draft_made sc h c.args.number c.args.site.now _ c.args.input d c.requires.up.stands c.in_ok-draft.ensures.ready in
+    let d = c.in-Ok.draft in
+    let made = draft_made sc h c.args.number c.args.site.now _ c.args.input d c.requires.up.stands c.in-Ok.ensures.ready in
     let due = taken_is_due sc h c.args.number c.args.input c.requires.turns.restless c.requires.due c.requires.takes in
-    let cl = c.in_ok-short.ensures.claimed in
-    let records : List Record = c.into_step-made.result.records in
+    let cl = c.in-Ok-claim_place_by_turns.ensures.claimed in
+    let records : List Record = d.plan.step.records in
     let rs : records ≡ (made_by sc h c.args.number c.args.input).records =
-    records_made sc h c.args.number c.args.input c.into_step-made.result (c.into_step-made.ensures ∙ made.step_is) in
-    let e : Entry = record { owner = c.args.number; act = Fall d.inputs records c.in-Err.why } in
-    let allows = fall_allowed sc h c.args.number c.args.input d.inputs records c.in-Err.why made.inputs_are rs c.requires.turns.some c.requires.up.up due
-    (λ none. c.in-Err.ensures.some (c.records-records.ensures ∙ records_made sc h c.args.number c.args.input d.plan.step made.step_is ∙ sym rs ∙ none)) in
+    records_made sc h c.args.number c.args.input d.plan.step made.step_is in
+    let e : Entry = record { owner = c.args.number; act = Fall d.inputs records c.in-Err-write.why } in
+    let allows = fall_allowed sc h c.args.number c.args.input d.inputs records c.in-Err-write.why made.inputs_are rs c.requires.turns.some c.requires.up.up due
+    (λ none. c.in-Err-write.ensures.some (c.records-records.ensures ∙ records_made sc h c.args.number c.args.input d.plan.step made.step_is ∙ sym rs ∙ none)) in
     let may : MayEnterBehind (seen_by q) e =
-    may_commit p (seen_by q) _ e cl.between c.requires.turns.owns cl.grew cl.played cl.is c.requires.turns.played c.in_ok-short.ensures.played c.requires.turns.some c.requires.turns.exists c.requires.turns.restless allows
+    may_commit p (seen_by q) _ e cl.between c.requires.turns.owns cl.grew cl.played cl.is c.requires.turns.played c.in-Ok-claim_place_by_turns.ensures.played c.requires.turns.some c.requires.turns.exists c.requires.turns.restless allows
     (fall_takes sc h c.args.number c.args.input d.inputs made.inputs_are c.requires.takes) (omega arith) in
-    subst (λ (y : Entry). MayEnterBehind (seen_by q) y) (sym c.fall_of-fall.ensures) may
+    subst (λ (y : Entry). MayEnterBehind (seen_by q) y) (sym c.fall_over-fall.ensures) may
 
-pub commit_entry-requires-in-Err-clause-alone : goal.commit_entry-requires-in-Err-clause-alone
-commit_entry-requires-in-Err-clause-alone g c = λ calm.
+pub commit_entry-requires-in-Err-write-clause-alone : goal.commit_entry-requires-in-Err-write-clause-alone
+commit_entry-requires-in-Err-write-clause-alone g c = λ calm.
     let p = c.args.pass.now in
     let q = c.claim_place_by_turns.new.pass in
-    let cl = c.in_ok-short.ensures.claimed in
-    let restless = still_restless p (seen_by q) cl.between c.args.number _ c.requires.turns.owns cl.grew cl.played cl.is c.requires.turns.played c.in_ok-short.ensures.played c.requires.turns.restless in
+    let cl = c.in-Ok-claim_place_by_turns.ensures.claimed in
+    let restless = still_restless p (seen_by q) cl.between c.args.number _ c.requires.turns.owns cl.grew cl.played cl.is c.requires.turns.played c.in-Ok-claim_place_by_turns.ensures.played c.requires.turns.restless in
     absurd (let both = sym calm ∙ restless in cc)
 
-pub returns-in-Ok-clause-turned : goal.returns-in-Ok-clause-turned
-returns-in-Ok-clause-turned g c =
+pub returns-in-Ok-write-clause-turned : goal.returns-in-Ok-write-clause-turned
+returns-in-Ok-write-clause-turned g c =
     let p = c.args.pass.now in
     let q = c.claim_place_by_turns.new.pass in
     let sc = scenario_seen p in
     let h = history_seen p in
-    let d = c.in_ok-draft.draft in
-    let made = draft_made sc h c.args.number c.args.site.now _ c.args.input d c.requires.up.stands c.in_ok-draft.ensures.ready in
+    let d = c.in-Ok.draft in
+    let made = draft_made sc h c.args.number c.args.site.now _ c.args.input d c.requires.up.stands c.in-Ok.ensures.ready in
     let due = taken_is_due sc h c.args.number c.args.input c.requires.turns.restless c.requires.due c.requires.takes in
-    let cl = c.in_ok-short.ensures.claimed in
+    let cl = c.in-Ok-claim_place_by_turns.ensures.claimed in
     let step : SiteStep = c.apply.result in
     let is : step ≡ step_kept c.args.input (made_by sc h c.args.number c.args.input) = c.apply.ensures.step ∙ made.step_is in
     let e : Entry = entry_of_plan c.args.number c.args.input step in
@@ -139,35 +139,35 @@ returns-in-Ok-clause-turned g c =
     let r = c.commit_entry.new.pass in
     let P : Entry → Type 0 = λ y. (later : List Mark) × GrewByOthers belongs q later × (seen_by r ≡ later ++ mark.Entered (numbered_on (entries_of later) y) ∷ []) × IsPlayed later in
     let ent : P e = subst P c.step_of-step.ensures c.commit_entry.ensures.entered in
-    let owns = still_owns p q c.args.number c.in_ok-short.ensures.same c.requires.turns.owns in
+    let owns = still_owns p q c.args.number c.in-Ok-claim_place_by_turns.ensures.same c.requires.turns.owns in
     let b = behind_of p q r c.args.number _ e c.requires.turns.owns owns cl.between cl.grew cl.is ent.0 ent.1 ent.2 cl.played ent.3 in
-    entered_turn c.args.wire.now p q r c.args.number _ e ent.0 b refl c.requires.turns.played c.in_ok-short.ensures.played c.commit_entry.ensures.played c.requires.turns.some sc h allows tt
+    entered_turn c.args.wire.now p q r c.args.number _ e ent.0 b refl c.requires.turns.played c.in-Ok-claim_place_by_turns.ensures.played c.commit_entry.ensures.played c.requires.turns.some sc h allows tt
     (step_used _ c.args.input step.records step.outs step.told (sym fits))
-    c.commit_entry.ensures.idle c.in_ok-short.ensures.same c.commit_entry.ensures.same
+    c.commit_entry.ensures.idle c.in-Ok-claim_place_by_turns.ensures.same c.commit_entry.ensures.same
 
-pub returns-in-Ok-clause-none_back : goal.returns-in-Ok-clause-none_back
-returns-in-Ok-clause-none_back g c =
+pub returns-in-Ok-write-clause-none_back : goal.returns-in-Ok-write-clause-none_back
+returns-in-Ok-write-clause-none_back g c =
     let p = c.args.pass.now in
     let q = c.claim_place_by_turns.new.pass in
     let r = c.commit_entry.new.pass in
-    let cl = c.in_ok-short.ensures.claimed in
+    let cl = c.in-Ok-claim_place_by_turns.ensures.claimed in
     let e : Entry = entry_of_plan c.args.number c.args.input c.apply.result in
     let P : Entry → Type 0 = λ y. (later : List Mark) × GrewByOthers belongs q later × (seen_by r ≡ later ++ mark.Entered (numbered_on (entries_of later) y) ∷ []) × IsPlayed later in
     let ent : P e = subst P c.step_of-step.ensures c.commit_entry.ensures.entered in
-    let owns = still_owns p q c.args.number c.in_ok-short.ensures.same c.requires.turns.owns in
+    let owns = still_owns p q c.args.number c.in-Ok-claim_place_by_turns.ensures.same c.requires.turns.owns in
     let b = behind_of p q r c.args.number _ e c.requires.turns.owns owns cl.between cl.grew cl.is ent.0 ent.1 ent.2 cl.played ent.3 in
     entered_back c.args.number _ (seen_by p) (seen_by q) ent.0 (seen_by r) e b (omega arith)
 
-pub returns-in-Ok-clause-ended : goal.returns-in-Ok-clause-ended
-returns-in-Ok-clause-ended g c =
+pub returns-in-Ok-write-clause-ended : goal.returns-in-Ok-write-clause-ended
+returns-in-Ok-write-clause-ended g c =
     let p = c.args.pass.now in
     let q = c.claim_place_by_turns.new.pass in
     let sc = scenario_seen p in
     let h = history_seen p in
-    let d = c.in_ok-draft.draft in
-    let made = draft_made sc h c.args.number c.args.site.now _ c.args.input d c.requires.up.stands c.in_ok-draft.ensures.ready in
+    let d = c.in-Ok.draft in
+    let made = draft_made sc h c.args.number c.args.site.now _ c.args.input d c.requires.up.stands c.in-Ok.ensures.ready in
     let due = taken_is_due sc h c.args.number c.args.input c.requires.turns.restless c.requires.due c.requires.takes in
-    let cl = c.in_ok-short.ensures.claimed in
+    let cl = c.in-Ok-claim_place_by_turns.ensures.claimed in
     let step : SiteStep = c.apply.result in
     let is : step ≡ step_kept c.args.input (made_by sc h c.args.number c.args.input) = c.apply.ensures.step ∙ made.step_is in
     let e : Entry = entry_of_plan c.args.number c.args.input step in
@@ -175,38 +175,38 @@ returns-in-Ok-clause-ended g c =
     let r = c.commit_entry.new.pass in
     let P : Entry → Type 0 = λ y. (later : List Mark) × GrewByOthers belongs q later × (seen_by r ≡ later ++ mark.Entered (numbered_on (entries_of later) y) ∷ []) × IsPlayed later in
     let ent : P e = subst P c.step_of-step.ensures c.commit_entry.ensures.entered in
-    let owns = still_owns p q c.args.number c.in_ok-short.ensures.same c.requires.turns.owns in
+    let owns = still_owns p q c.args.number c.in-Ok-claim_place_by_turns.ensures.same c.requires.turns.owns in
     let b = behind_of p q r c.args.number _ e c.requires.turns.owns owns cl.between cl.grew cl.is ent.0 ent.1 ent.2 cl.played ent.3 in
     let now = entries_of ent.0 in
-    let m = meanwhile c.args.number _ (seen_by p) (seen_by q) ent.0 (seen_by r) e b refl c.requires.turns.played c.in_ok-short.ensures.played c.commit_entry.ensures.played in
+    let m = meanwhile c.args.number _ (seen_by p) (seen_by q) ent.0 (seen_by r) e b refl c.requires.turns.played c.in-Ok-claim_place_by_turns.ensures.played c.commit_entry.ensures.played in
     let up : IsUp g.D.Disk.meaning sc now c.args.number c.args.site.now c.args.log.now c.args.rose.now c.args.logged.now =
     up_meanwhile g.D.Disk.meaning sc h now c.args.number (Up c.args.site.now c.args.log.now c.args.rose.now c.args.logged.now) m c.requires.up in
     let here = made_meanwhile sc h now c.args.number c.args.input d m made in
-    let all = entries c.args.number _ (seen_by p) (seen_by q) ent.0 (seen_by r) e b refl c.requires.turns.played c.in_ok-short.ensures.played c.commit_entry.ensures.played in
+    let all = entries c.args.number _ (seen_by p) (seen_by q) ent.0 (seen_by r) e b refl c.requires.turns.played c.in-Ok-claim_place_by_turns.ensures.played c.commit_entry.ensures.played in
     let more = history_seen r in
     let entered = step_entered sc now more c.args.number c.args.input step (c.apply.ensures.step ∙ here.step_is) all in
     let ready : StandsBy sc now c.args.number c.args.rose.now c.prepare_by_turns.new.site =
-    record { alike = c.in_ok-draft.ensures.still.stands sc now c.args.number c.args.rose.now up.stands.alike; risen = up.stands.risen; order = up.stands.order } in
+    record { alike = c.in-Ok.ensures.still.stands sc now c.args.number c.args.rose.now up.stands.alike; risen = up.stands.risen; order = up.stands.order } in
     let fits : length step.outs ≡ length d.plan.step.outs = ap (λ (p : SiteStep). length p.outs) c.apply.ensures.step in
-    let turned = entered_turn c.args.wire.now p q r c.args.number _ e ent.0 b refl c.requires.turns.played c.in_ok-short.ensures.played c.commit_entry.ensures.played c.requires.turns.some sc h allows tt
+    let turned = entered_turn c.args.wire.now p q r c.args.number _ e ent.0 b refl c.requires.turns.played c.in-Ok-claim_place_by_turns.ensures.played c.commit_entry.ensures.played c.requires.turns.some sc h allows tt
     (step_used _ c.args.input step.records step.outs step.told (sym fits))
-    c.commit_entry.ensures.idle c.in_ok-short.ensures.same c.commit_entry.ensures.same in
+    c.commit_entry.ensures.idle c.in-Ok-claim_place_by_turns.ensures.same c.commit_entry.ensures.same in
     let keys = (keys_stay p r c.requires.turns.played turned.turned.seen).0 in
     let order : IsLogInOrder c.args.number (log_of sc (now ++ entry_of sc now c.args.number c.args.input ∷ []) c.args.number) =
     subst (λ (l : List Entry). IsLogInOrder c.args.number (log_of sc l c.args.number)) entered
     (subst (λ (x : Scenario). IsLogInOrder c.args.number (log_of x more c.args.number)) keys
     (log_in_order c.logs_are_sound.ensures.orderly c.logs_are_sound.ensures.sets (scenario_seen r) more c.args.number c.commit_entry.ensures.played.given c.commit_entry.ensures.played.legal)) in
     let stood : StandsBy sc h c.args.number c.args.rose.now c.prepare_by_turns.new.site =
-    record { alike = c.in_ok-draft.ensures.still.stands sc h c.args.number c.args.rose.now c.requires.up.stands.alike; risen = c.requires.up.stands.risen; order = c.requires.up.stands.order } in
+    record { alike = c.in-Ok.ensures.still.stands sc h c.args.number c.args.rose.now c.requires.up.stands.alike; risen = c.requires.up.stands.risen; order = c.requires.up.stands.order } in
     let slice : c.records-records.result.now ≡ (made_by sc h c.args.number c.args.input).records = c.records-records.ensures ∙ records_made sc h c.args.number c.args.input d.plan.step made.step_is in
-    let then : Follows c.args.number (log_of sc h c.args.number) c.records-records.result.now c.in_ok-short.short =
+    let then : Follows c.args.number (log_of sc h c.args.number) c.records-records.result.now c.in-Ok-claim_place_by_turns.short =
     step_follows c.logs_are_sound.ensures.orderly c.logs_are_sound.ensures.sets c.logs_are_sound.ensures.sound c.logs_are_sound.ensures.mention c.logs_are_sound.ensures.begun c.logs_are_sound.ensures.votes sc h c.args.number
-    c.requires.turns.played.given c.requires.turns.played.legal c.requires.up.up c.args.rose.now c.prepare_by_turns.new.site c.args.input c.in_ok-short.short c.records-records.result.now stood c.requires.turns.some due
-    slice made.back c.in_ok-short.ensures.short in
-    let follows : Follows c.args.number (log_of sc now c.args.number) c.records-records.result.now c.in_ok-short.short =
-    follows_while sc h now c.args.number c.records-records.result.now c.in_ok-short.short m then in
+    c.requires.turns.played.given c.requires.turns.played.legal c.requires.up.up c.args.rose.now c.prepare_by_turns.new.site c.args.input c.in-Ok-claim_place_by_turns.short c.records-records.result.now stood c.requires.turns.some due
+    slice made.back c.in-Ok-claim_place_by_turns.ensures.short in
+    let follows : Follows c.args.number (log_of sc now c.args.number) c.records-records.result.now c.in-Ok-claim_place_by_turns.short =
+    follows_while sc h now c.args.number c.records-records.result.now c.in-Ok-claim_place_by_turns.short m then in
     let slice_now : c.records-records.result.now ≡ (made_by sc now c.args.number c.args.input).records = c.records-records.ensures ∙ records_made sc now c.args.number c.args.input d.plan.step here.step_is in
-    let wrote = c.in-Ok.ensures.logged c.args.number (entries_at now c.args.number) (log_of sc now c.args.number) up.logged follows.short follows.orderly follows.back in
+    let wrote = c.in-Ok-write.ensures.logged c.args.number (entries_at now c.args.number) (log_of sc now c.args.number) up.logged follows.short follows.orderly follows.back in
     let logged = step_logged g.D.Disk.meaning sc now c.args.number c.args.input c.records-records.result.now c.write.new.logged c.write.new.log slice_now wrote in
     record {
       now = now;
@@ -217,202 +217,202 @@ returns-in-Ok-clause-ended g c =
           (stepped_up g.D.Disk.meaning sc now c.args.number c.args.input c.apply.new.self c.write.new.log c.write.new.logged up.up
           (site_on sc now c.args.number c.args.input c.prepare_by_turns.new.site c.apply.new.self d.plan.step ready here.step_is
           (ap (λ (s : SiteView). s.weights) c.apply.ensures.done) (ap (λ (s : SiteView). s.site) c.apply.ensures.done) c.apply.ensures.stand order)
-          logged c.in-Ok.ensures.lit
+          logged c.in-Ok-write.ensures.lit
           (inputs_on sc now c.args.number c.args.input c.args.site.now.inputs _ up.inputs
-          (ap (λ (s : SiteView). s.inputs) c.apply.ensures.done ∙ ap (λ (s : SiteView). count_on s.inputs) c.in_ok-draft.ensures.still.same)));
+          (ap (λ (s : SiteView). s.inputs) c.apply.ensures.done ∙ ap (λ (s : SiteView). count_on s.inputs) c.in-Ok.ensures.still.same)));
     }
 
-pub returns-in-Err-clause-turned : goal.returns-in-Err-clause-turned
-returns-in-Err-clause-turned g c =
+pub returns-in-Ok-claim_place_by_turns-clause-turned : goal.returns-in-Ok-claim_place_by_turns-clause-turned
+returns-in-Ok-claim_place_by_turns-clause-turned g c =
     let p = c.args.pass.now in
     let q = c.claim_place_by_turns.new.pass in
     let sc = scenario_seen p in
     let h = history_seen p in
-    let d = c.in_ok-draft.draft in
-    let made = draft_made sc h c.args.number c.args.site.now _ c.args.input d c.requires.up.stands c.in_ok-draft.ensures.ready in
+    let d = c.in-Ok.draft in
+    let made = draft_made sc h c.args.number c.args.site.now _ c.args.input d c.requires.up.stands c.in-Ok.ensures.ready in
     let due = taken_is_due sc h c.args.number c.args.input c.requires.turns.restless c.requires.due c.requires.takes in
-    let cl = c.in_ok-short.ensures.claimed in
-    let records : List Record = c.into_step-made.result.records in
+    let cl = c.in-Ok-claim_place_by_turns.ensures.claimed in
+    let records : List Record = d.plan.step.records in
     let rs : records ≡ (made_by sc h c.args.number c.args.input).records =
-    records_made sc h c.args.number c.args.input c.into_step-made.result (c.into_step-made.ensures ∙ made.step_is) in
-    let e : Entry = record { owner = c.args.number; act = Fall d.inputs records c.in-Err.why } in
-    let allows = fall_allowed sc h c.args.number c.args.input d.inputs records c.in-Err.why made.inputs_are rs c.requires.turns.some c.requires.up.up due
-    (λ none. c.in-Err.ensures.some (c.records-records.ensures ∙ records_made sc h c.args.number c.args.input d.plan.step made.step_is ∙ sym rs ∙ none)) in
-    let r = c.commit_entry-in-Err.new.pass in
+    records_made sc h c.args.number c.args.input d.plan.step made.step_is in
+    let e : Entry = record { owner = c.args.number; act = Fall d.inputs records c.in-Err-write.why } in
+    let allows = fall_allowed sc h c.args.number c.args.input d.inputs records c.in-Err-write.why made.inputs_are rs c.requires.turns.some c.requires.up.up due
+    (λ none. c.in-Err-write.ensures.some (c.records-records.ensures ∙ records_made sc h c.args.number c.args.input d.plan.step made.step_is ∙ sym rs ∙ none)) in
+    let r = c.commit_entry-in-Err-write.new.pass in
     let P : Entry → Type 0 = λ y. (later : List Mark) × GrewByOthers belongs q later × (seen_by r ≡ later ++ mark.Entered (numbered_on (entries_of later) y) ∷ []) × IsPlayed later in
-    let ent : P e = subst P c.fall_of-fall.ensures c.commit_entry-in-Err.ensures.entered in
-    let owns = still_owns p q c.args.number c.in_ok-short.ensures.same c.requires.turns.owns in
+    let ent : P e = subst P c.fall_over-fall.ensures c.commit_entry-in-Err-write.ensures.entered in
+    let owns = still_owns p q c.args.number c.in-Ok-claim_place_by_turns.ensures.same c.requires.turns.owns in
     let b = behind_of p q r c.args.number _ e c.requires.turns.owns owns cl.between cl.grew cl.is ent.0 ent.1 ent.2 cl.played ent.3 in
-    entered_turn c.args.wire.now p q r c.args.number _ e ent.0 b refl c.requires.turns.played c.in_ok-short.ensures.played c.commit_entry-in-Err.ensures.played c.requires.turns.some sc h allows (ap length made.inputs_are)
-    (fall_used (length d.plan.step.outs) d.inputs records c.in-Err.why (ap length made.inputs_are))
-    c.commit_entry-in-Err.ensures.idle c.in_ok-short.ensures.same c.commit_entry-in-Err.ensures.same
+    entered_turn c.args.wire.now p q r c.args.number _ e ent.0 b refl c.requires.turns.played c.in-Ok-claim_place_by_turns.ensures.played c.commit_entry-in-Err-write.ensures.played c.requires.turns.some sc h allows (ap length made.inputs_are)
+    (fall_used (length d.plan.step.outs) d.inputs records c.in-Err-write.why (ap length made.inputs_are))
+    c.commit_entry-in-Err-write.ensures.idle c.in-Ok-claim_place_by_turns.ensures.same c.commit_entry-in-Err-write.ensures.same
 
-pub returns-in-Err-clause-none_back : goal.returns-in-Err-clause-none_back
-returns-in-Err-clause-none_back g c =
+pub returns-in-Ok-claim_place_by_turns-clause-none_back : goal.returns-in-Ok-claim_place_by_turns-clause-none_back
+returns-in-Ok-claim_place_by_turns-clause-none_back g c =
     let p = c.args.pass.now in
     let q = c.claim_place_by_turns.new.pass in
-    let r = c.commit_entry-in-Err.new.pass in
+    let r = c.commit_entry-in-Err-write.new.pass in
     let sc = scenario_seen p in
     let h = history_seen p in
-    let d = c.in_ok-draft.draft in
-    let made = draft_made sc h c.args.number c.args.site.now _ c.args.input d c.requires.up.stands c.in_ok-draft.ensures.ready in
-    let cl = c.in_ok-short.ensures.claimed in
-    let e : Entry = record { owner = c.args.number; act = Fall d.inputs c.into_step-made.result.records c.in-Err.why } in
+    let d = c.in-Ok.draft in
+    let made = draft_made sc h c.args.number c.args.site.now _ c.args.input d c.requires.up.stands c.in-Ok.ensures.ready in
+    let cl = c.in-Ok-claim_place_by_turns.ensures.claimed in
+    let e : Entry = record { owner = c.args.number; act = Fall d.inputs d.plan.step.records c.in-Err-write.why } in
     let P : Entry → Type 0 = λ y. (later : List Mark) × GrewByOthers belongs q later × (seen_by r ≡ later ++ mark.Entered (numbered_on (entries_of later) y) ∷ []) × IsPlayed later in
-    let ent : P e = subst P c.fall_of-fall.ensures c.commit_entry-in-Err.ensures.entered in
-    let owns = still_owns p q c.args.number c.in_ok-short.ensures.same c.requires.turns.owns in
+    let ent : P e = subst P c.fall_over-fall.ensures c.commit_entry-in-Err-write.ensures.entered in
+    let owns = still_owns p q c.args.number c.in-Ok-claim_place_by_turns.ensures.same c.requires.turns.owns in
     let b = behind_of p q r c.args.number _ e c.requires.turns.owns owns cl.between cl.grew cl.is ent.0 ent.1 ent.2 cl.played ent.3 in
     let one : length d.inputs ≡ 1 = ap length made.inputs_are in
     entered_back c.args.number _ (seen_by p) (seen_by q) ent.0 (seen_by r) e b (omega (arith, one))
 
-pub returns-in-Err-clause-ended : goal.returns-in-Err-clause-ended
-returns-in-Err-clause-ended g c =
+pub returns-in-Ok-claim_place_by_turns-clause-ended : goal.returns-in-Ok-claim_place_by_turns-clause-ended
+returns-in-Ok-claim_place_by_turns-clause-ended g c =
     let p = c.args.pass.now in
     let q = c.claim_place_by_turns.new.pass in
     let sc = scenario_seen p in
     let h = history_seen p in
-    let d = c.in_ok-draft.draft in
-    let made = draft_made sc h c.args.number c.args.site.now _ c.args.input d c.requires.up.stands c.in_ok-draft.ensures.ready in
+    let d = c.in-Ok.draft in
+    let made = draft_made sc h c.args.number c.args.site.now _ c.args.input d c.requires.up.stands c.in-Ok.ensures.ready in
     let due = taken_is_due sc h c.args.number c.args.input c.requires.turns.restless c.requires.due c.requires.takes in
-    let cl = c.in_ok-short.ensures.claimed in
-    let records : List Record = c.into_step-made.result.records in
+    let cl = c.in-Ok-claim_place_by_turns.ensures.claimed in
+    let records : List Record = d.plan.step.records in
     let rs : records ≡ (made_by sc h c.args.number c.args.input).records =
-    records_made sc h c.args.number c.args.input c.into_step-made.result (c.into_step-made.ensures ∙ made.step_is) in
-    let e : Entry = record { owner = c.args.number; act = Fall d.inputs records c.in-Err.why } in
-    let allows = fall_allowed sc h c.args.number c.args.input d.inputs records c.in-Err.why made.inputs_are rs c.requires.turns.some c.requires.up.up due
-    (λ none. c.in-Err.ensures.some (c.records-records.ensures ∙ records_made sc h c.args.number c.args.input d.plan.step made.step_is ∙ sym rs ∙ none)) in
-    let r = c.commit_entry-in-Err.new.pass in
+    records_made sc h c.args.number c.args.input d.plan.step made.step_is in
+    let e : Entry = record { owner = c.args.number; act = Fall d.inputs records c.in-Err-write.why } in
+    let allows = fall_allowed sc h c.args.number c.args.input d.inputs records c.in-Err-write.why made.inputs_are rs c.requires.turns.some c.requires.up.up due
+    (λ none. c.in-Err-write.ensures.some (c.records-records.ensures ∙ records_made sc h c.args.number c.args.input d.plan.step made.step_is ∙ sym rs ∙ none)) in
+    let r = c.commit_entry-in-Err-write.new.pass in
     let P : Entry → Type 0 = λ y. (later : List Mark) × GrewByOthers belongs q later × (seen_by r ≡ later ++ mark.Entered (numbered_on (entries_of later) y) ∷ []) × IsPlayed later in
-    let ent : P e = subst P c.fall_of-fall.ensures c.commit_entry-in-Err.ensures.entered in
-    let owns = still_owns p q c.args.number c.in_ok-short.ensures.same c.requires.turns.owns in
+    let ent : P e = subst P c.fall_over-fall.ensures c.commit_entry-in-Err-write.ensures.entered in
+    let owns = still_owns p q c.args.number c.in-Ok-claim_place_by_turns.ensures.same c.requires.turns.owns in
     let b = behind_of p q r c.args.number _ e c.requires.turns.owns owns cl.between cl.grew cl.is ent.0 ent.1 ent.2 cl.played ent.3 in
     let now = entries_of ent.0 in
-    let m = meanwhile c.args.number _ (seen_by p) (seen_by q) ent.0 (seen_by r) e b refl c.requires.turns.played c.in_ok-short.ensures.played c.commit_entry-in-Err.ensures.played in
+    let m = meanwhile c.args.number _ (seen_by p) (seen_by q) ent.0 (seen_by r) e b refl c.requires.turns.played c.in-Ok-claim_place_by_turns.ensures.played c.commit_entry-in-Err-write.ensures.played in
     let up : IsUp g.D.Disk.meaning sc now c.args.number c.args.site.now c.args.log.now c.args.rose.now c.args.logged.now =
     up_meanwhile g.D.Disk.meaning sc h now c.args.number (Up c.args.site.now c.args.log.now c.args.rose.now c.args.logged.now) m c.requires.up in
     let here = made_meanwhile sc h now c.args.number c.args.input d m made in
-    let all = entries c.args.number _ (seen_by p) (seen_by q) ent.0 (seen_by r) e b refl c.requires.turns.played c.in_ok-short.ensures.played c.commit_entry-in-Err.ensures.played in
+    let all = entries c.args.number _ (seen_by p) (seen_by q) ent.0 (seen_by r) e b refl c.requires.turns.played c.in-Ok-claim_place_by_turns.ensures.played c.commit_entry-in-Err-write.ensures.played in
     let more = history_seen r in
-    let there = records_made sc now c.args.number c.args.input c.into_step-made.result (c.into_step-made.ensures ∙ here.step_is) in
-    let entered = fall_entered sc now more c.args.number c.args.input d.inputs records c.in-Err.why here.inputs_are there all in
+    let there = records_made sc now c.args.number c.args.input d.plan.step here.step_is in
+    let entered = fall_entered sc now more c.args.number c.args.input d.inputs records c.in-Err-write.why here.inputs_are there all in
     let disk = c.write.new.log.disk in
     let stood : StandsBy sc h c.args.number c.args.rose.now c.prepare_by_turns.new.site =
-    record { alike = c.in_ok-draft.ensures.still.stands sc h c.args.number c.args.rose.now c.requires.up.stands.alike; risen = c.requires.up.stands.risen; order = c.requires.up.stands.order } in
+    record { alike = c.in-Ok.ensures.still.stands sc h c.args.number c.args.rose.now c.requires.up.stands.alike; risen = c.requires.up.stands.risen; order = c.requires.up.stands.order } in
     let slice : c.records-records.result.now ≡ (made_by sc h c.args.number c.args.input).records = c.records-records.ensures ∙ records_made sc h c.args.number c.args.input d.plan.step made.step_is in
-    let then : Follows c.args.number (log_of sc h c.args.number) c.records-records.result.now c.in_ok-short.short =
+    let then : Follows c.args.number (log_of sc h c.args.number) c.records-records.result.now c.in-Ok-claim_place_by_turns.short =
     step_follows c.logs_are_sound.ensures.orderly c.logs_are_sound.ensures.sets c.logs_are_sound.ensures.sound c.logs_are_sound.ensures.mention c.logs_are_sound.ensures.begun c.logs_are_sound.ensures.votes sc h c.args.number
-    c.requires.turns.played.given c.requires.turns.played.legal c.requires.up.up c.args.rose.now c.prepare_by_turns.new.site c.args.input c.in_ok-short.short c.records-records.result.now stood c.requires.turns.some due
-    slice made.back c.in_ok-short.ensures.short in
-    let follows : Follows c.args.number (log_of sc now c.args.number) c.records-records.result.now c.in_ok-short.short =
-    follows_while sc h now c.args.number c.records-records.result.now c.in_ok-short.short m then in
+    c.requires.turns.played.given c.requires.turns.played.legal c.requires.up.up c.args.rose.now c.prepare_by_turns.new.site c.args.input c.in-Ok-claim_place_by_turns.short c.records-records.result.now stood c.requires.turns.some due
+    slice made.back c.in-Ok-claim_place_by_turns.ensures.short in
+    let follows : Follows c.args.number (log_of sc now c.args.number) c.records-records.result.now c.in-Ok-claim_place_by_turns.short =
+    follows_while sc h now c.args.number c.records-records.result.now c.in-Ok-claim_place_by_turns.short m then in
     let slice_now : c.records-records.result.now ≡ (made_by sc now c.args.number c.args.input).records = c.records-records.ensures ∙ records_made sc now c.args.number c.args.input d.plan.step here.step_is in
     record {
       now = now;
       meanwhile = m;
-      fell = record { some = (λ none. c.in-Err.ensures.some (c.records-records.ensures ∙ records_made sc now c.args.number c.args.input d.plan.step here.step_is ∙ none)); entered = entered };
+      fell = record { some = (λ none. c.in-Err-write.ensures.some (c.records-records.ensures ∙ records_made sc now c.args.number c.args.input d.plan.step here.step_is ∙ none)); entered = entered };
       stands =
           subst (λ (l : List Entry). DiskTells sc l c.args.number (g.D.Disk.meaning.meters disk).capacity c.write.new.logged (g.D.Disk.meaning.image disk)) (sym entered)
-          (fallen_tells sc now c.args.number (g.D.Disk.meaning.meters disk).capacity c.args.input c.records-records.result.now c.in-Err.why c.write.new.logged (g.D.Disk.meaning.image disk) slice_now
-          (c.in-Err.ensures.left c.args.number (entries_at now c.args.number) (log_of sc now c.args.number) up.logged follows.short follows.orderly follows.back));
+          (fallen_tells sc now c.args.number (g.D.Disk.meaning.meters disk).capacity c.args.input c.records-records.result.now c.in-Err-write.why c.write.new.logged (g.D.Disk.meaning.image disk) slice_now
+          (c.in-Err-write.ensures.left c.args.number (entries_at now c.args.number) (log_of sc now c.args.number) up.logged follows.short follows.orderly follows.back));
     }
 
-pub returns-in_err-draft-clause-none_back : goal.returns-in_err-draft-clause-none_back
-returns-in_err-draft-clause-none_back g c = still_back c.args.number (seen_by c.args.pass.now)
+pub returns-clause-none_back : goal.returns-clause-none_back
+returns-clause-none_back g c = still_back c.args.number (seen_by c.args.pass.now)
 
-pub returns-in_err-short-clause-ended : goal.returns-in_err-short-clause-ended
-returns-in_err-short-clause-ended g c =
+pub returns-in-Ok-clause-ended : goal.returns-in-Ok-clause-ended
+returns-in-Ok-clause-ended g c =
     let p = c.args.pass.now in
     let q = c.claim_place_by_turns.new.pass in
     let sc = scenario_seen p in
     let h = history_seen p in
     let more = history_seen q in
-    let m = c.in_err-short.ensures.meanwhile in
-    let up = still_up g.D.Disk.meaning sc h more c.args.number c.args.site.now c.prepare_by_turns.new.site c.args.log.now c.args.logged.now m c.requires.up c.in_ok-draft.ensures.still in
+    let m = c.in-Err-claim_place_by_turns.ensures.meanwhile in
+    let up = still_up g.D.Disk.meaning sc h more c.args.number c.args.site.now c.prepare_by_turns.new.site c.args.log.now c.args.logged.now m c.requires.up c.in-Ok.ensures.still in
     let still : IsStill g.D.Disk.meaning sc h more c.args.number (Up c.args.site.now c.args.log.now c.args.rose.now c.args.logged.now) (Up c.prepare_by_turns.new.site c.args.log.now c.args.rose.now c.args.logged.now) =
     record { meanwhile = m; disk = refl; stands = up } in
     no_room g.D.Disk.meaning sc h more c.args.number c.args.input (Up c.args.site.now c.args.log.now c.args.rose.now c.args.logged.now) (Up c.prepare_by_turns.new.site c.args.log.now c.args.rose.now c.args.logged.now)
-    c.in_err-short.field-0.0 (c.in_err-short.ensures.refused c.in_err-short.field-0.0 refl) c.from_residual-in_err-short.result c.from_residual-in_err-short.ensures.1 still
+    c.in-Err-claim_place_by_turns.fault (c.in-Err-claim_place_by_turns.ensures.refused c.in-Err-claim_place_by_turns.fault refl) (Err c.in-Err-claim_place_by_turns.fault) refl still
 
-pub returns-in_err-short-clause-never : goal.returns-in_err-short-clause-never
-returns-in_err-short-clause-never g c = λ is.
-    refuses c.in_err-short.field-0.0 c.from_residual-in_err-short.result (c.in_err-short.ensures.refused c.in_err-short.field-0.0 refl) c.from_residual-in_err-short.ensures.1 input_fault.Down is
+pub returns-in-Ok-clause-never : goal.returns-in-Ok-clause-never
+returns-in-Ok-clause-never g c = λ is.
+    refuses c.in-Err-claim_place_by_turns.fault (Err c.in-Err-claim_place_by_turns.fault) (c.in-Err-claim_place_by_turns.ensures.refused c.in-Err-claim_place_by_turns.fault refl) refl input_fault.Down is
 
-pub returns-in_err-short-clause-why : goal.returns-in_err-short-clause-why
-returns-in_err-short-clause-why g c = λ why is.
-    absurd (refuses c.in_err-short.field-0.0 c.from_residual-in_err-short.result (c.in_err-short.ensures.refused c.in_err-short.field-0.0 refl) c.from_residual-in_err-short.ensures.1 (input_fault.Fell why) is)
+pub returns-in-Ok-clause-why : goal.returns-in-Ok-clause-why
+returns-in-Ok-clause-why g c = λ why is.
+    absurd (refuses c.in-Err-claim_place_by_turns.fault (Err c.in-Err-claim_place_by_turns.fault) (c.in-Err-claim_place_by_turns.ensures.refused c.in-Err-claim_place_by_turns.fault refl) refl (input_fault.Fell why) is)
 
-pub returns-in_err-short-clause-room : goal.returns-in_err-short-clause-room
-returns-in_err-short-clause-room g c = λ why is fits.
-    absurd (refuses c.in_err-short.field-0.0 c.from_residual-in_err-short.result (c.in_err-short.ensures.refused c.in_err-short.field-0.0 refl) c.from_residual-in_err-short.ensures.1 (input_fault.Fell why) is)
+pub returns-in-Ok-clause-room : goal.returns-in-Ok-clause-room
+returns-in-Ok-clause-room g c = λ why is fits.
+    absurd (refuses c.in-Err-claim_place_by_turns.fault (Err c.in-Err-claim_place_by_turns.fault) (c.in-Err-claim_place_by_turns.ensures.refused c.in-Err-claim_place_by_turns.fault refl) refl (input_fault.Fell why) is)
 
-pub returns-in-Err-clause-why : goal.returns-in-Err-clause-why
-returns-in-Err-clause-why g c = λ why is.
+pub returns-in-Ok-claim_place_by_turns-clause-why : goal.returns-in-Ok-claim_place_by_turns-clause-why
+returns-in-Ok-claim_place_by_turns-clause-why g c = λ why is.
     let sc = scenario_seen c.args.pass.now in
     let h = history_seen c.args.pass.now in
-    let d = c.in_ok-draft.draft in
-    let made = draft_made sc h c.args.number c.args.site.now _ c.args.input d c.requires.up.stands c.in_ok-draft.ensures.ready in
+    let d = c.in-Ok.draft in
+    let made = draft_made sc h c.args.number c.args.site.now _ c.args.input d c.requires.up.stands c.in-Ok.ensures.ready in
     let due = taken_is_due sc h c.args.number c.args.input c.requires.turns.restless c.requires.due c.requires.takes in
     let stood : StandsBy sc h c.args.number c.args.rose.now c.prepare_by_turns.new.site =
-    record { alike = c.in_ok-draft.ensures.still.stands sc h c.args.number c.args.rose.now c.requires.up.stands.alike; risen = c.requires.up.stands.risen; order = c.requires.up.stands.order } in
+    record { alike = c.in-Ok.ensures.still.stands sc h c.args.number c.args.rose.now c.requires.up.stands.alike; risen = c.requires.up.stands.risen; order = c.requires.up.stands.order } in
     let slice : c.records-records.result.now ≡ (made_by sc h c.args.number c.args.input).records = c.records-records.ensures ∙ records_made sc h c.args.number c.args.input d.plan.step made.step_is in
-    let then : Follows c.args.number (log_of sc h c.args.number) c.records-records.result.now c.in_ok-short.short =
+    let then : Follows c.args.number (log_of sc h c.args.number) c.records-records.result.now c.in-Ok-claim_place_by_turns.short =
     step_follows c.logs_are_sound.ensures.orderly c.logs_are_sound.ensures.sets c.logs_are_sound.ensures.sound c.logs_are_sound.ensures.mention c.logs_are_sound.ensures.begun c.logs_are_sound.ensures.votes sc h c.args.number
-    c.requires.turns.played.given c.requires.turns.played.legal c.requires.up.up c.args.rose.now c.prepare_by_turns.new.site c.args.input c.in_ok-short.short c.records-records.result.now stood c.requires.turns.some due
-    slice made.back c.in_ok-short.ensures.short in
+    c.requires.turns.played.given c.requires.turns.played.legal c.requires.up.up c.args.rose.now c.prepare_by_turns.new.site c.args.input c.in-Ok-claim_place_by_turns.short c.records-records.result.now stood c.requires.turns.some due
+    slice made.back c.in-Ok-claim_place_by_turns.ensures.short in
     let old = g.D.Disk.meaning.meters c.args.log.now.disk in
     let new = g.D.Disk.meaning.meters c.write.new.log.disk in
     let l = log_of sc h c.args.number in
     let brief = up_brief c.logs_are_sound.ensures.orderly c.logs_are_sound.ensures.sets c.logs_are_sound.ensures.sound c.logs_are_sound.ensures.mention c.logs_are_sound.ensures.begun c.logs_are_sound.ensures.votes sc h c.args.number
     c.requires.turns.played.given c.requires.turns.played.legal c.requires.up.up c.args.rose.now c.prepare_by_turns.new.site stood in
     let size : length d.body ≡ size_of c.records-records.result.now =
-    ap length c.in_ok-draft.ensures.ready.drafted.body_is ∙ sym (ap size_of c.records-records.ensures) in
-    let fits : HasRoomUnlessShort g.D.Disk.meaning.meters c.args.log.now l c.in_ok-short.short (size_of c.records-records.result.now) =
-    subst (λ (n : ℕ). HasRoomUnlessShort g.D.Disk.meaning.meters c.args.log.now l c.in_ok-short.short n) size (c.in_ok-short.ensures.due l brief c.requires.up.logged.stands.sound (λ none. c.in-Err.ensures.some (c.records-records.ensures ∙ none))) in
-    let same : c.in-Err.why ≡ why = cc in
+    ap length c.in-Ok.ensures.ready.drafted.body_is ∙ sym (ap size_of c.records-records.ensures) in
+    let fits : HasRoomUnlessShort g.D.Disk.meaning.meters c.args.log.now l c.in-Ok-claim_place_by_turns.short (size_of c.records-records.result.now) =
+    subst (λ (n : ℕ). HasRoomUnlessShort g.D.Disk.meaning.meters c.args.log.now l c.in-Ok-claim_place_by_turns.short n) size (c.in-Ok-claim_place_by_turns.ensures.due l brief c.requires.up.logged.stands.sound (λ none. c.in-Err-write.ensures.some (c.records-records.ensures ∙ none))) in
+    let same : c.in-Err-write.why ≡ why = cc in
     subst (λ (w : Why). IsReason w l (made_by sc h c.args.number c.args.input).records old new) same
-    (subst (λ (rs : List Record). IsReason c.in-Err.why l rs old new) slice
-    (c.in-Err.ensures.reason c.args.number (entries_at h c.args.number) l c.requires.up.logged then.short fits))
+    (subst (λ (rs : List Record). IsReason c.in-Err-write.why l rs old new) slice
+    (c.in-Err-write.ensures.reason c.args.number (entries_at h c.args.number) l c.requires.up.logged then.short fits))
 
-pub returns-in-Err-clause-room : goal.returns-in-Err-clause-room
-returns-in-Err-clause-room g c = λ why is fits.
+pub returns-in-Ok-claim_place_by_turns-clause-room : goal.returns-in-Ok-claim_place_by_turns-clause-room
+returns-in-Ok-claim_place_by_turns-clause-room g c = λ why is fits.
     let sc = scenario_seen c.args.pass.now in
     let h = history_seen c.args.pass.now in
-    let d = c.in_ok-draft.draft in
-    let made = draft_made sc h c.args.number c.args.site.now _ c.args.input d c.requires.up.stands c.in_ok-draft.ensures.ready in
+    let d = c.in-Ok.draft in
+    let made = draft_made sc h c.args.number c.args.site.now _ c.args.input d c.requires.up.stands c.in-Ok.ensures.ready in
     let slice : c.records-records.result.now ≡ (made_by sc h c.args.number c.args.input).records = c.records-records.ensures ∙ records_made sc h c.args.number c.args.input d.plan.step made.step_is in
     let size : size_of (made_by sc h c.args.number c.args.input).records ≡ length c.as_slice-body.result.now =
-    ap size_of (sym slice ∙ c.records-records.ensures) ∙ sym (ap length c.in_ok-draft.ensures.ready.drafted.body_is) ∙ sym (ap length c.as_slice-body.ensures) in
-    let same : c.in-Err.why ≡ why = cc in
-    sym same ∙ c.in-Err.ensures.room c.requires.up.logged.stands.sound (subst (λ (n : ℕ). HasRoom g.D.Disk.meaning.meters c.args.log.now n) size fits)
+    ap size_of (sym slice ∙ c.records-records.ensures) ∙ sym (ap length c.in-Ok.ensures.ready.drafted.body_is) ∙ sym (ap length c.as_slice-body.ensures) in
+    let same : c.in-Err-write.why ≡ why = cc in
+    sym same ∙ c.in-Err-write.ensures.room c.requires.up.logged.stands.sound (subst (λ (n : ℕ). HasRoom g.D.Disk.meaning.meters c.args.log.now n) size fits)
 
-pub returns-in-Ok-clause-frame : goal.returns-in-Ok-clause-frame
-returns-in-Ok-clause-frame g c =
+pub returns-in-Ok-write-clause-frame : goal.returns-in-Ok-write-clause-frame
+returns-in-Ok-write-clause-frame g c =
     let sc = scenario_seen c.args.pass.now in
     let h = history_seen c.args.pass.now in
-    let d = c.in_ok-draft.draft in
-    let made = draft_made sc h c.args.number c.args.site.now _ c.args.input d c.requires.up.stands c.in_ok-draft.ensures.ready in
+    let d = c.in-Ok.draft in
+    let made = draft_made sc h c.args.number c.args.site.now _ c.args.input d c.requires.up.stands c.in-Ok.ensures.ready in
     let due = taken_is_due sc h c.args.number c.args.input c.requires.turns.restless c.requires.due c.requires.takes in
     let stood : StandsBy sc h c.args.number c.args.rose.now c.prepare_by_turns.new.site =
-    record { alike = c.in_ok-draft.ensures.still.stands sc h c.args.number c.args.rose.now c.requires.up.stands.alike; risen = c.requires.up.stands.risen; order = c.requires.up.stands.order } in
+    record { alike = c.in-Ok.ensures.still.stands sc h c.args.number c.args.rose.now c.requires.up.stands.alike; risen = c.requires.up.stands.risen; order = c.requires.up.stands.order } in
     let slice : c.records-records.result.now ≡ (made_by sc h c.args.number c.args.input).records = c.records-records.ensures ∙ records_made sc h c.args.number c.args.input d.plan.step made.step_is in
-    let then : Follows c.args.number (log_of sc h c.args.number) c.records-records.result.now c.in_ok-short.short =
+    let then : Follows c.args.number (log_of sc h c.args.number) c.records-records.result.now c.in-Ok-claim_place_by_turns.short =
     step_follows c.logs_are_sound.ensures.orderly c.logs_are_sound.ensures.sets c.logs_are_sound.ensures.sound c.logs_are_sound.ensures.mention c.logs_are_sound.ensures.begun c.logs_are_sound.ensures.votes sc h c.args.number
-    c.requires.turns.played.given c.requires.turns.played.legal c.requires.up.up c.args.rose.now c.prepare_by_turns.new.site c.args.input c.in_ok-short.short c.records-records.result.now stood c.requires.turns.some due
-    slice made.back c.in_ok-short.ensures.short in
+    c.requires.turns.played.given c.requires.turns.played.legal c.requires.up.up c.args.rose.now c.prepare_by_turns.new.site c.args.input c.in-Ok-claim_place_by_turns.short c.records-records.result.now stood c.requires.turns.some due
+    slice made.back c.in-Ok-claim_place_by_turns.ensures.short in
     let l = log_of sc h c.args.number in
     let F : List Record → Type 0 = λ rs. IsOneFrame g.D.Disk.meaning.meters l rs c.args.log.now c.write.new.log in
     let size : size_of c.records-records.result.now ≡ length c.as_slice-body.result.now =
-    ap size_of c.records-records.ensures ∙ sym (ap length c.in_ok-draft.ensures.ready.drafted.body_is) ∙ sym (ap length c.as_slice-body.ensures) in
+    ap size_of c.records-records.ensures ∙ sym (ap length c.in-Ok.ensures.ready.drafted.body_is) ∙ sym (ap length c.as_slice-body.ensures) in
     subst F slice
-    (one_frame g.D.Disk.meaning.meters c.args.number c.args.log.now c.write.new.log l c.records-records.result.now c.in_ok-short.short then.short
-    (λ none. (c.write.ensures.same none).0) c.in-Ok.ensures.end
-    (λ fits. c.in-Ok.ensures.stays c.requires.up.logged.stands.sound (subst (λ (n : ℕ). HasRoom g.D.Disk.meaning.meters c.args.log.now n) size fits)))
+    (one_frame g.D.Disk.meaning.meters c.args.number c.args.log.now c.write.new.log l c.records-records.result.now c.in-Ok-claim_place_by_turns.short then.short
+    (λ none. (c.write.ensures.same none).0) c.in-Ok-write.ensures.end
+    (λ fits. c.in-Ok-write.ensures.stays c.requires.up.logged.stands.sound (subst (λ (n : ℕ). HasRoom g.D.Disk.meaning.meters c.args.log.now n) size fits)))
 
-pub returns-in-Ok-clause-takes : goal.returns-in-Ok-clause-takes
-returns-in-Ok-clause-takes g c =
+pub returns-in-Ok-write-clause-takes : goal.returns-in-Ok-write-clause-takes
+returns-in-Ok-write-clause-takes g c =
     let sc = scenario_seen c.args.pass.now in
     let h = history_seen c.args.pass.now in
-    let d = c.in_ok-draft.draft in
-    let made = draft_made sc h c.args.number c.args.site.now _ c.args.input d c.requires.up.stands c.in_ok-draft.ensures.ready in
+    let d = c.in-Ok.draft in
+    let made = draft_made sc h c.args.number c.args.site.now _ c.args.input d c.requires.up.stands c.in-Ok.ensures.ready in
     let T : List Record → Type 0 = λ rs. Takes (calls_for rs) (g.D.Disk.meaning.meters c.args.log.now.disk) (g.D.Disk.meaning.meters c.write.new.log.disk) in
-    subst T (c.records-records.ensures ∙ records_made sc h c.args.number c.args.input d.plan.step made.step_is) c.in-Ok.ensures.takes
+    subst T (c.records-records.ensures ∙ records_made sc h c.args.number c.args.input d.plan.step made.step_is) c.in-Ok-write.ensures.takes

@@ -6,4 +6,4 @@ use Rattle.e3_judge.proofs.audit.falling.would_record.Goals as goal
 pub returns-in_ok-plan-in-Up-clause-made : goal.returns-in_ok-plan-in-Up-clause-made
 returns-in_ok-plan-in-Up-clause-made c = λ yes.
     records_made c.args.prefix.now.scenario.now c.args.prefix.now.entries.now c.args.site c.args.input.now c.in_ok-plan-in-Up.plan.step c.args.records.now
-    c.in_ok-plan-in-Up.ensures.made (sym (c.same_list.ensures ∙ ap (same_list same_record c.args.records.now) c.records.ensures) ∙ yes)
+    c.in_ok-plan-in-Up.ensures.made (sym (c.same_list-would.ensures ∙ ap (same_list same_record c.args.records.now) c.records.ensures) ∙ yes)

@@ -5,8 +5,8 @@ use Rattle.e3_world.specs.Packets.{step_items}
 use Rattle.e3_judge.proofs.audit.Entered.{asks}
 use Rattle.e3_judge.proofs.audit.auditor.Auditor.line.Goals as goal
 
-pub begin-requires-clause-asked : goal.begin-requires-clause-asked
-begin-requires-clause-asked c =
+pub begin-begun-requires-clause-asked : goal.begin-begun-requires-clause-asked
+begin-begun-requires-clause-asked c =
     asks c.args.prefix.now.scenario.now c.args.prefix.now.entries.now c.args.number _ (c.in_ok-due.ensures c.if-not-due.false).next
     (c.as_slice.ensures ∙ c.in_ok-asked.ensures
     ∙ ap (λ items. filter_map (input_with c.args.binding.now.bound) items) c.step_items-items.ensures
