@@ -50,7 +50,7 @@ pub struct Change {
 }
 
 /// The card of a transaction of which nothing is known. It takes no memory.
-pub fn blank(alloc: Global) -> Card
+pub(crate) fn blank(alloc: Global) -> Card
     ensures { result ≡ blank }
 {
     Card {

@@ -2,7 +2,7 @@
 ghost use Rattle.std.specs.Prelude.{◌≡◌, cond, Some, None, OnOk, OnErr, option_copied};
 ghost use Rattle.std.specs.BTreeMap.{is_at};
 ghost use Rattle.std.specs.Map.{lookup};
-ghost use Rattle.e3_cards.specs.Cards.{blank, kept};
+ghost use Rattle.e3_cards.specs.Cards.{kept};
 ghost use Rattle.e3_cards.specs.Tables.{card_at, key_cmp};
 ghost use Rattle.e3_cards.specs.declared.keys.TxnKey.{TxnKey as KeptKey};
 
@@ -37,17 +37,6 @@ pub(crate) fn card_at<'a>(map: &'a BTreeMap<TxnKey, Card>, t: &Txn) -> Option<&'
     map.get(&txn_key(t))
 }
 
-/// The card of a transaction, or the blank one.
-pub fn card_or<'a>(map: &'a BTreeMap<TxnKey, Card>, t: &Txn, none: &'a Card) -> &'a Card
-    requires { none.now ≡ blank }
-    ensures { result.now ≡ card_at map.now.entries t.now }
-{
-    match map.get(&txn_key(t)) {
-        Some(card) => card,
-        None => none,
-    }
-}
-
 /// The card of a key is this one from now on. Only a key without a card can want for memory.
 pub(crate) fn put_card(
     map: &mut BTreeMap<TxnKey, Card>,
@@ -60,7 +49,13 @@ pub(crate) fn put_card(
     ensures kept { OnErr result (map.new.entries ≡ map.old.entries) }
 {
     match map.insert(key, card) {
-        Ok(_) => Ok(()),
-        Err(_) => Err(NoMemory),
+        Ok(was) => {
+            drop(was);
+            Ok(())
+        }
+        Err(failed) => {
+            drop(failed.value.1);
+            Err(NoMemory)
+        }
     }
 }

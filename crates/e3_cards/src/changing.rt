@@ -38,7 +38,8 @@ fn all_changes(alloc: Global, cards: &Cards, step: &SiteStep) -> Result<List<Cha
     let txns = touched(alloc, step)?;
     let mut out = List::new(alloc);
     for t in txns.as_slice() {
-        out.push(change_of(alloc, cards, step, t)?)?;
+        let change = change_of(alloc, cards, step, t)?;
+        out.push(change)?;
     }
     Ok(out)
 }

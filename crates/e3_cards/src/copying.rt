@@ -74,7 +74,7 @@ fn add_arrived(card: &Card, out: &mut Card) -> Result<(), NoMemory>
 }
 
 // A blank card becomes a copy of this one.
-fn fill(alloc: Global, card: &Card, out: &mut Card) -> Result<(), NoMemory>
+fn fill_card(alloc: Global, card: &Card, out: &mut Card) -> Result<(), NoMemory>
     requires { out.old ≡ blank }
     ensures { IfOk result (λ u. out.new ≡ card.now) }
 {
@@ -98,7 +98,7 @@ fn fill_at(
     ensures { IfOk result (λ u. out.new ≡ card_at map.now.entries t.now) }
 {
     match map.get(&txn_key(t)) {
-        Some(card) => fill(alloc, card, out),
+        Some(card) => fill_card(alloc, card, out),
         None => Ok(()),
     }
 }
@@ -108,6 +108,11 @@ pub fn copy_at(alloc: Global, map: &BTreeMap<TxnKey, Card>, t: &Txn) -> Result<C
     ensures { IfOk result (λ card. card ≡ card_at map.now.entries t.now) }
 {
     let mut out = blank(alloc);
-    fill_at(alloc, map, t, &mut out)?;
-    Ok(out)
+    match fill_at(alloc, map, t, &mut out) {
+        Ok(()) => Ok(out),
+        Err(e) => {
+            drop(out);
+            Err(e)
+        }
+    }
 }

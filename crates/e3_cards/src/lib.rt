@@ -19,8 +19,8 @@ mod seen;
 mod stepping;
 mod touched;
 
-pub use card::{Card, Change, Counted, Heard, blank};
-pub use cards::{Cards, Changes, card_or};
+pub use card::{Card, Change, Counted, Heard};
+pub use cards::{Cards, Changes};
 pub use changing::{apply, changes, ready};
 pub use copying::copy_at;
 pub use keys::{TxnKey, txn_key};

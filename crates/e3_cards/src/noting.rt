@@ -37,7 +37,7 @@ fn note_at(kept: &mut BTreeMap<TxnKey, Card>, t: &Txn, r: &Record) -> bool
 }
 
 // The card of a transaction is this one from now on.
-fn put_of(kept: &mut BTreeMap<TxnKey, Card>, t: &Txn, card: Card) -> Result<(), NoMemory>
+fn put_card_of(kept: &mut BTreeMap<TxnKey, Card>, t: &Txn, card: Card) -> Result<(), NoMemory>
     ensures { OnOk result ((u : SomeTxn) → IsFoundByBits u → card_at kept.new.entries u ≡ (if same_txn t.now u then card else card_at kept.old.entries u)) }
 {
     found_by_bits(t);
@@ -64,7 +64,7 @@ fn note_in(
     if note_at(kept, t, r) {
         return Ok(());
     }
-    put_of(kept, t, noted(blank(alloc), t, r))
+    put_card_of(kept, t, noted(blank(alloc), t, r))
 }
 
 fn note_of(alloc: Global, cards: &mut Cards, t: &Txn, r: &Record) -> Result<(), NoMemory>

@@ -144,6 +144,11 @@ pub fn step_card(
     ensures { IfOk result (λ card. card ≡ card_by site (record { inc = inc; seq = suc calls }) t.now was step.now) }
 {
     let mut card = was;
-    step_on(alloc, site, inc, calls, t, &mut card, step)?;
-    Ok(card)
+    match step_on(alloc, site, inc, calls, t, &mut card, step) {
+        Ok(()) => Ok(card),
+        Err(e) => {
+            drop(card);
+            Err(e)
+        }
+    }
 }

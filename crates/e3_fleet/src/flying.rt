@@ -100,8 +100,14 @@ fn open<D: Disk + Drill + Drop, R: Wait>(
     ensures new { IfOk result (λ o. (scenario_of o.shared ≡ scenario.now) × (entries_of o.shared ≡ []) × (most_of o.shared ≡ most)) }
 {
     let opened = open_wire(rt, alloc, scenario, most)?;
-    seat_all(alloc, scenario, workers, disks)?;
-    Ok(opened)
+    match seat_all(alloc, scenario, workers, disks) {
+        Ok(()) => Ok(opened),
+        Err(NoMemory) => {
+            // Handed to `drop`, it is given back by one call.
+            drop(opened);
+            Err(NoMemory)
+        }
+    }
 }
 
 impl<D: Disk + Drill + Drop> Fleet<D> {

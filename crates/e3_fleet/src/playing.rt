@@ -109,6 +109,5 @@ pub(crate) fn play<D: Disk + Drill + Drop + Send, G: Gate + Sync, R: Wait + Thre
         pace.packets,
         fleet,
         steps,
-    )?;
-    Ok(())
+    )
 }

@@ -13,14 +13,13 @@ use std::alloc::Global;
 
 // Adds what the plain judge says of a text, where it is anything else.
 fn push_other(alloc: Global, page: &mut Page, text: &[u8], told: &[u8]) {
-    if let Some(line) = plain_line(alloc, text) {
-        if !line.is_whole() {
-            page.lack();
-        }
-        if line.as_slice() != told {
-            page.text("  the plain judge: ");
-            page.bytes(line.as_slice());
-        }
+    let line = plain_line(alloc, text);
+    if !line.is_whole() {
+        page.lack();
+    }
+    if !line.as_slice().is_empty() && line.as_slice() != told {
+        page.text("  the plain judge: ");
+        page.bytes(line.as_slice());
     }
 }
 
@@ -41,10 +40,9 @@ fn push_verdict(alloc: Global, page: &mut Page, case: &Case) {
 /// Adds the verdicts on all cases of the input.
 pub fn push_lines(alloc: Global, page: &mut Page, given: &Page) {
     let input = page.part(alloc, given, "checks");
-    let Ok(cases) = cases_in(alloc, input.as_slice()) else {
-        return page.lack();
-    };
+    let cases = cases_in(alloc, page, input.as_slice());
     for case in cases.as_slice() {
         push_verdict(alloc, page, case);
     }
+    drop(cases);
 }

@@ -7,13 +7,13 @@
 // its next calls; `read` and `capacity` ask it; and `open:WHAT` opens a log over it. With a log: `append:DIGITS` adds a body;
 // `clear` closes the other region, and `turn:DIGITS` turns to a body in it; `fits:LENGTH` asks whether a body of this length
 // fits; `arm` stands as above; `brief` turns to the brief of its bodies, and `site` asks a site that rises with them for it;
-// `leave` leaves the disk alone, and `power` with power.
+// `leave` leaves the disk alone, and `power` with power. Any other word is `no word`.
 
 mod briefs;
 mod calls;
 mod logs;
 
-use crate::texts::{cut, letter_of, spelled_by};
+use crate::texts::{cut, letter_of, only, spelled_by};
 use calls::act_on_disk;
 use e3_disk::MemDisk;
 use e3_log::Log;
@@ -41,22 +41,14 @@ pub struct Word<'a> {
     bytes: &'a [u8],
 }
 
-// A list of the number of a call; an empty one for 0.
-fn fails_at(alloc: Global, call: u64) -> Result<List<u64>, NoMemory> {
-    let mut fails = List::new(alloc);
-    if call > 0 {
-        fails.push(call)?;
-    }
-    Ok(fails)
+fn blank_disk(alloc: Global, capacity: u64, call: u64) -> Result<MemDisk, NoMemory> {
+    let fails = only(alloc, call)?;
+    MemDisk::with_faults(alloc, capacity.max(2).min(100_000), fails)
 }
 
 /// A blank disk of this capacity, of 2 to 100,000 bytes, whose call of this number fails, or none for 0.
 pub fn blank(alloc: Global, page: &mut Page, capacity: u64, call: u64) -> Held {
-    let Ok(fails) = fails_at(alloc, call) else {
-        page.lack();
-        return Held::Nothing;
-    };
-    match MemDisk::with_faults(alloc, capacity.max(2).min(100_000), fails) {
+    match blank_disk(alloc, capacity, call) {
         Ok(disk) => Held::Disk(disk),
         Err(NoMemory) => {
             page.lack();
@@ -81,6 +73,7 @@ fn done_to_log(
     word: &Word,
 ) -> Held {
     if word.letter == b'l' || word.letter == b'p' {
+        drop(bodies);
         return done_to_disk(alloc, page, log.into_disk(), word);
     }
     act_on_log(alloc, page, &mut log, &mut bodies, word);
@@ -103,21 +96,12 @@ fn done(alloc: Global, page: &mut Page, held: Held, word: &Word) -> Held {
 pub fn did(alloc: Global, page: &mut Page, held: Held, text: &[u8]) -> Held {
     let (name, rest) = cut(text, b':');
     let (first, second) = cut(rest, b':');
-    let letter = letter_of(name);
-    match spelled_by(alloc, if second.is_empty() { first } else { second }) {
-        Ok(digits) => {
-            let bytes = digits.as_slice();
-            let word = Word {
-                letter,
-                first,
-                second,
-                bytes,
-            };
-            done(alloc, page, held, &word)
-        }
-        Err(NoMemory) => {
-            page.lack();
-            held
-        }
-    }
+    let digits = spelled_by(alloc, page, if second.is_empty() { first } else { second });
+    let word = Word {
+        letter: letter_of(name),
+        first,
+        second,
+        bytes: digits.as_slice(),
+    };
+    done(alloc, page, held, &word)
 }

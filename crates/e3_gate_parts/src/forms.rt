@@ -1,30 +1,42 @@
 // Worked cases of texts, which stand in the input: texts of scenarios, with the line of the fault of each; and a scenario with the
 // trace of a history that has each form, whose report and trace are printed.
 
-mod scenarios;
+pub mod scenarios;
 
 use crate::texts::{cut, parts_of};
 use e3_report::{Page, report};
 use e3_scenario::read_scenario;
 use e3_trace::{before_mark, read_trace};
 use e3_types::{NoMemory, Scenario};
+use e3_world::History;
 use std::alloc::Global;
+
+// Adds the report, and the trace, of a history.
+fn push_history(alloc: Global, page: &mut Page, scenario: &Scenario, history: &History) {
+    match report(alloc, scenario, history, true) {
+        Ok(text) => page.bytes(text.as_slice()),
+        Err(NoMemory) => page.lack(),
+    }
+}
 
 // Adds the report, and the trace, of a scenario and of the history whose trace stands in the input.
 fn push_told(alloc: Global, page: &mut Page, input: &[u8], scenario: &Scenario) {
-    let Ok(history) = read_trace(alloc, scenario, input) else {
-        return page.text("no trace\n");
-    };
-    match report(alloc, scenario, &history, true) {
-        Ok(text) => page.bytes(text.as_slice()),
-        Err(NoMemory) => page.lack(),
+    match read_trace(alloc, scenario, input) {
+        Ok(history) => {
+            push_history(alloc, page, scenario, &history);
+            drop(history);
+        }
+        Err(_) => page.text("no trace\n"),
     }
 }
 
 // Adds the report, and the trace, of the scenario on this line and of the history whose trace stands in the input.
 fn push_report(alloc: Global, page: &mut Page, input: &[u8], line: &[u8]) {
     match read_scenario(alloc, scenarios::text_of(alloc, line).as_slice()) {
-        Ok(scenario) => push_told(alloc, page, input, &scenario),
+        Ok(scenario) => {
+            push_told(alloc, page, input, &scenario);
+            drop(scenario);
+        }
         Err(_) => page.text("no scenario\n"),
     }
 }
@@ -49,10 +61,8 @@ pub fn push_lines(alloc: Global, page: &mut Page, given: &Page) {
     let input = page.part(alloc, given, "forms");
     let cases = before_mark(input.as_slice());
     let cases = cases.strip_suffix(b"\n").unwrap_or(cases);
-    let Ok(lines) = parts_of(alloc, cases, b'\n') else {
-        return page.lack();
-    };
-    for line in lines.iter() {
+    let lines = parts_of(alloc, page, cases, b'\n');
+    for line in &lines {
         push_case(alloc, page, input.as_slice(), line);
     }
 }

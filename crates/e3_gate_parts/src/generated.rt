@@ -13,26 +13,21 @@ use std::alloc::Global;
 
 const LAST: u32 = 1000;
 
-// The scenario that the text of this number spells; none where it spells none.
-fn spelled(alloc: Global, n: u32) -> Result<Option<Scenario>, NoMemory>
+// Whether the text of this number spells this scenario.
+fn is_spelled(alloc: Global, n: u32, played: &Scenario) -> Result<bool, NoMemory>
     requires least { 1 ≤ n }
     requires most { n ≤ 1000 }
 {
     let text = generated(alloc, n)?;
     match read_scenario(alloc, text.as_slice()) {
-        Ok(scenario) => Ok(Some(scenario)),
+        Ok(scenario) => {
+            let is_same = is_same_scenario(alloc, &scenario, played);
+            drop(scenario);
+            is_same
+        }
         Err(ScenarioFault::NoMemory) => Err(NoMemory),
-        Err(_) => Ok(None),
+        Err(_) => Ok(false),
     }
-}
-
-// Whether this is the scenario of a number.
-fn is_played(alloc: Global, n: u32, scenario: &Scenario) -> Result<bool, NoMemory>
-    requires least { 1 ≤ n }
-    requires most { n ≤ 1000 }
-{
-    let played = generated_scenario(alloc, n)?;
-    is_same_scenario(alloc, scenario, &played)
 }
 
 // Whether the text of this number is read as its scenario.
@@ -40,9 +35,12 @@ fn is_read_as_played(alloc: Global, n: u32) -> Result<bool, NoMemory> {
     if n == 0 || n > 1000 {
         return Ok(false);
     }
-    match spelled(alloc, n) {
-        Ok(Some(scenario)) => is_played(alloc, n, &scenario),
-        Ok(None) => Ok(false),
+    match generated_scenario(alloc, n) {
+        Ok(played) => {
+            let is_spelled = is_spelled(alloc, n, &played);
+            drop(played);
+            is_spelled
+        }
         Err(NoMemory) => Err(NoMemory),
     }
 }

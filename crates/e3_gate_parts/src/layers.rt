@@ -17,7 +17,6 @@ use e3_codec::{each_list_has_one_spelling, records_are_a_format};
 use e3_disk::torn_writes_keep_the_rest;
 use e3_log::{calls_are_whole_or_not_at_all, regions_have_one_reading};
 use e3_report::Page;
-use e3_types::NoMemory;
 use std::alloc::Global;
 use std::io::ErrorKind;
 
@@ -62,10 +61,8 @@ fn push_by(alloc: Global, page: &mut Page, digits: &[u8], all: &[&[u8]]) {
 
 // Adds the lines of a case, behind the digits of the body that came before it.
 fn push_case(alloc: Global, page: &mut Page, digits: &[u8], line: &[u8]) {
-    match parts_of(alloc, line, b'|') {
-        Ok(pieces) => push_by(alloc, page, digits, pieces.as_slice()),
-        Err(NoMemory) => page.lack(),
-    }
+    let pieces = parts_of(alloc, page, line, b'|');
+    push_by(alloc, page, digits, pieces.as_slice());
 }
 
 // Adds the lines of all cases.
@@ -88,8 +85,6 @@ pub fn push_lines(alloc: Global, page: &mut Page, given: &Page) {
     regions_have_one_reading();
     calls_are_whole_or_not_at_all();
     let input = page.part(alloc, given, "layers");
-    match parts_of(alloc, input.as_slice(), b'\n') {
-        Ok(lines) => push_cases(alloc, page, lines.as_slice()),
-        Err(NoMemory) => page.lack(),
-    }
+    let lines = parts_of(alloc, page, input.as_slice(), b'\n');
+    push_cases(alloc, page, lines.as_slice());
 }

@@ -31,9 +31,7 @@ fn push_by(alloc: Global, page: &mut Page, head: &[u8], pieces: &[&[u8]]) {
 
 // Adds the lines of a line of the input, unless it is empty or a comment.
 fn push_line(alloc: Global, page: &mut Page, line: &[u8]) {
-    let Ok(pieces) = parts_of(alloc, line, b'|') else {
-        return page.lack();
-    };
+    let pieces = parts_of(alloc, page, line, b'|');
     match pieces.as_slice() {
         [[] | [b'#', ..], ..] | [] => {}
         [head, pieces @ ..] => push_by(alloc, page, head, pieces),
@@ -43,10 +41,8 @@ fn push_line(alloc: Global, page: &mut Page, line: &[u8]) {
 /// Adds all lines.
 pub fn push_lines(alloc: Global, page: &mut Page, given: &Page) {
     let input = page.part(alloc, given, "parts");
-    let Ok(lines) = parts_of(alloc, input.as_slice(), b'\n') else {
-        return page.lack();
-    };
-    for line in lines.iter() {
+    let lines = parts_of(alloc, page, input.as_slice(), b'\n');
+    for line in &lines {
         push_line(alloc, page, line);
     }
 }

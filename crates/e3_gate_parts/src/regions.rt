@@ -3,12 +3,10 @@
 use crate::disks::{Held, blank, did};
 use crate::texts::{cut, number, parts_of};
 use e3_report::Page;
-use e3_types::NoMemory;
 use std::alloc::Global;
 
 // Does what the words behind the capacity say, each behind the one before, and adds each with what came of it.
-fn push_words(alloc: Global, page: &mut Page, held: Held, words: &[&[u8]]) {
-    let mut held = held;
+fn push_words(alloc: Global, page: &mut Page, mut held: Held, words: &[&[u8]]) {
     for word in words {
         page.text("\n  ");
         page.bytes(word);
@@ -16,6 +14,7 @@ fn push_words(alloc: Global, page: &mut Page, held: Held, words: &[&[u8]]) {
         held = did(alloc, page, held, word);
     }
     page.text("\n");
+    drop(held);
 }
 
 // Adds the lines of a disk.
@@ -23,22 +22,16 @@ fn push_line(alloc: Global, page: &mut Page, line: &[u8]) {
     let (capacity, words) = cut(line, b' ');
     page.text("disk of ");
     page.bytes(capacity);
-    match parts_of(alloc, words, b' ') {
-        Ok(words) => {
-            let held = blank(alloc, page, number(capacity), 0);
-            push_words(alloc, page, held, &words);
-        }
-        Err(NoMemory) => page.lack(),
-    }
+    let words = parts_of(alloc, page, words, b' ');
+    let held = blank(alloc, page, number(capacity), 0);
+    push_words(alloc, page, held, &words);
 }
 
 /// Adds all lines.
 pub fn push_lines(alloc: Global, page: &mut Page, given: &Page) {
     let input = page.part(alloc, given, "regions");
-    let Ok(lines) = parts_of(alloc, input.as_slice(), b'\n') else {
-        return page.lack();
-    };
-    for line in lines.iter() {
+    let lines = parts_of(alloc, page, input.as_slice(), b'\n');
+    for line in &lines {
         if !line.is_empty() {
             push_line(alloc, page, line);
         }

@@ -21,8 +21,11 @@ use e3_types::Scenario;
 use e3_world::History;
 use std::alloc::Global;
 
-// Adds what is read of a history: the first letter of the head says what, and the second word at which site.
+// Adds the head of a case, and what is read of a history: the first letter of the head says what, and the second word at which
+// site.
 fn push_by(alloc: Global, page: &mut Page, head: &[u8], scenario: &Scenario, history: &History) {
+    page.bytes(head);
+    page.text(":");
     let (kind, rest) = cut(head, b' ');
     let (site, _) = cut(rest, b' ');
     let site = number(site).min(64) as u32;
@@ -38,23 +41,27 @@ fn push_by(alloc: Global, page: &mut Page, head: &[u8], scenario: &Scenario, his
         Some(b't') => histories::push_table(alloc, page, scenario, site),
         _ => page.text(" no kind"),
     }
+    page.text("\n");
 }
 
 // Adds the lines of a case of this scenario.
 fn push_told(alloc: Global, page: &mut Page, head: &[u8], scenario: &Scenario, text: &[u8]) {
-    let Ok(history) = read_trace(alloc, scenario, text) else {
-        return page.text("no trace\n");
-    };
-    page.bytes(head);
-    page.text(":");
-    push_by(alloc, page, head, scenario, &history);
-    page.text("\n");
+    match read_trace(alloc, scenario, text) {
+        Ok(history) => {
+            push_by(alloc, page, head, scenario, &history);
+            drop(history);
+        }
+        Err(_) => page.text("no trace\n"),
+    }
 }
 
 // Adds the lines of a case.
 fn push_case(alloc: Global, page: &mut Page, head: &[u8], text: &[u8]) {
     match read_scenario(alloc, before_mark(text)) {
-        Ok(scenario) => push_told(alloc, page, head, &scenario, text),
+        Ok(scenario) => {
+            push_told(alloc, page, head, &scenario, text);
+            drop(scenario);
+        }
         Err(_) => page.text("no scenario\n"),
     }
 }
@@ -62,10 +69,9 @@ fn push_case(alloc: Global, page: &mut Page, head: &[u8], text: &[u8]) {
 /// Adds all lines.
 pub fn push_lines(alloc: Global, page: &mut Page, given: &Page) {
     let input = page.part(alloc, given, "sites");
-    let Ok(cases) = cases_in(alloc, input.as_slice()) else {
-        return page.lack();
-    };
+    let cases = cases_in(alloc, page, input.as_slice());
     for case in cases.as_slice() {
         push_case(alloc, page, case.name.as_slice(), case.text.as_slice());
     }
+    drop(cases);
 }

@@ -1,4 +1,4 @@
-// Words of the input, and what cases of several parts print. A line of cases has pieces between bars: a piece behind `=` is printed
+// Words of the input, and what cases of several parts print. The page remembers it where memory is lacking for what is read. A line of cases has pieces between bars: a piece behind `=` is printed
 // as it stands, a piece `/` ends a line of the output, and each other piece says what is
 // done: its first letter tells it from others.
 use e3_report::Page;
@@ -9,6 +9,15 @@ use std::alloc::Global;
 pub fn bytes_of(alloc: Global, bytes: &[u8]) -> Result<List<u8>, NoMemory> {
     let mut list = List::new(alloc);
     list.extend(bytes)?;
+    Ok(list)
+}
+
+/// A list of a number; an empty one for 0.
+pub fn only(alloc: Global, number: u64) -> Result<List<u64>, NoMemory> {
+    let mut list = List::new(alloc);
+    if number > 0 {
+        list.push(number)?;
+    }
     Ok(list)
 }
 
@@ -31,33 +40,33 @@ pub fn letter_of(word: &[u8]) -> u8 {
 }
 
 /// The parts of a text between such bytes.
-pub fn parts_of<'a>(alloc: Global, text: &'a [u8], mark: u8) -> Result<Vec<&'a [u8]>, NoMemory> {
+pub fn parts_of<'a>(alloc: Global, page: &mut Page, text: &'a [u8], mark: u8) -> Vec<&'a [u8]> {
     let mut parts = Vec::new(alloc);
     let mut start = 0;
     for at in 0..=text.len() {
         if at == text.len() || text[at] == mark {
             if parts.push(text.get(start..at).unwrap_or(b"")).is_err() {
-                return Err(NoMemory);
+                page.lack();
             }
             start = at + 1;
         }
     }
-    Ok(parts)
+    parts
 }
 
 /// The lines of a text, each with its line feed.
-pub fn lines_of(alloc: Global, text: &[u8]) -> Result<Vec<&[u8]>, NoMemory> {
+pub fn lines_of<'a>(alloc: Global, page: &mut Page, text: &'a [u8]) -> Vec<&'a [u8]> {
     let mut lines = Vec::new(alloc);
     let mut start = 0;
     for at in 0..text.len() {
         if text[at] == b'\n' || at + 1 == text.len() {
             if lines.push(text.get(start..=at).unwrap_or(b"")).is_err() {
-                return Err(NoMemory);
+                page.lack();
             }
             start = at + 1;
         }
     }
-    Ok(lines)
+    lines
 }
 
 /// A number; 0 where the word is none.
@@ -81,20 +90,21 @@ pub fn triple(word: &[u8]) -> (u32, u32, u32) {
 }
 
 /// The numbers of a text with commas between them; none for an empty text.
-pub fn numbers_of(alloc: Global, text: &[u8]) -> Result<List<u32>, NoMemory> {
+pub fn numbers_of(alloc: Global, page: &mut Page, text: &[u8]) -> List<u32> {
     let mut numbers = List::new(alloc);
-    for word in parts_of(alloc, text, b',')?.iter() {
-        if !word.is_empty() {
-            numbers.push(small(word))?;
+    let words = parts_of(alloc, page, text, b',');
+    for word in &words {
+        if !word.is_empty() && numbers.push(small(word)).is_err() {
+            page.lack();
         }
     }
-    Ok(numbers)
+    numbers
 }
 
 /// The sites of a text with commas between them; no site where they are not a set.
-pub fn set_of(alloc: Global, text: &[u8]) -> Result<SiteSet, NoMemory> {
-    let sites = numbers_of(alloc, text)?;
-    Ok(SiteSet::of(sites.as_slice()).unwrap_or(SiteSet::empty()))
+pub fn set_of(alloc: Global, page: &mut Page, text: &[u8]) -> SiteSet {
+    let sites = numbers_of(alloc, page, text);
+    SiteSet::of(sites.as_slice()).unwrap_or(SiteSet::empty())
 }
 
 /// The state of this name, as reports have it.
@@ -128,19 +138,22 @@ fn half_byte(digit: u8) -> u8 {
 }
 
 /// The bytes that digits spell, two for each.
-pub fn spelled_by(alloc: Global, digits: &[u8]) -> Result<List<u8>, NoMemory> {
+pub fn spelled_by(alloc: Global, page: &mut Page, digits: &[u8]) -> List<u8> {
     let mut bytes = List::new(alloc);
     let mut high = None;
     for digit in digits {
         match high {
             None => high = Some(half_byte(*digit)),
             Some(first) => {
-                bytes.push((first % 16) * 16 + half_byte(*digit) % 16)?;
+                let byte = (first % 16) * 16 + half_byte(*digit) % 16;
+                if bytes.push(byte).is_err() {
+                    page.lack();
+                }
                 high = None;
             }
         }
     }
-    Ok(bytes)
+    bytes
 }
 
 /// Adds a piece that is a text or the end of a line; whether it is one.

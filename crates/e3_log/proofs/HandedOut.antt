@@ -1,5 +1,5 @@
 -- What frames hand out.
-use Rattle.std.proofs.Common.{◌≡◌, ◌<◌, ◌≤◌, ◌+◌, ◌^◌, ◌&&◌, ◌==◌, ◌∷◌, [], ℕ, Bool, true, false, List, Option, Some, None, length, drop, refl, sym, ap, subst, ◌∙◌, arith, leb-true}
+use Rattle.std.proofs.Common.{◌≡◌, ◌<◌, ◌≤◌, ◌+◌, ◌^◌, ◌&&◌, ◌==◌, ◌∷◌, [], ℕ, Bool, true, false, List, Option, Some, None, length, drop, refl, sym, ap, subst, ◌∙◌, arith, leb-true, take, length-take}
 use Rattle.std.specs.Prelude.{nat_le, slice_index, Result, IfOk}
 use Rattle.e3_types.specs.declared.list.NoMemory.{NoMemory}
 use Rattle.std.proofs.lemmas.Bool.{and_parts, true≢false}
@@ -16,6 +16,17 @@ told_long l g is = by (nat_le 5 (length l) && (slice_index l 0 == TURN)) refl
     by : (b : Bool) → (nat_le 5 (length l) && (slice_index l 0 == TURN)) ≡ b → 5 ≤ length l
     by true e = leb-true 5 (length l) (and_parts (nat_le 5 (length l)) (slice_index l 0 == TURN) e).0
     by false e = absurd (let h : None ≡ Some g = rw e at is in cc)
+
+told_short : (l : List ℕ) → length l < 5 → None ≡ told_by l
+told_short l short = by (told_by l) refl
+  where
+    by : (o : Option ℕ) → told_by l ≡ o → None ≡ told_by l
+    by (Some g) e = absurd (omega (arith, told_long l g e, short))
+    by None e = sym e
+
+-- fewer than five bytes tell no generation
+pub told_few : (n : ℕ) (l : List ℕ) → n < 5 → None ≡ told_by (take n l)
+told_few n l few = told_short (take n l) (omega (arith, length-take n l))
 
 some_told : (o : Option ℕ) → is_told (Whole o) ≡ true → (g : ℕ) × (o ≡ Some g)
 some_told (Some g) is = (g, refl)

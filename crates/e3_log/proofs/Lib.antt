@@ -15,3 +15,6 @@ pub mod Opened
 pub mod Regained
 pub mod Kept
 pub mod Looking
+pub mod Spending
+pub mod Answered
+pub mod Prepared

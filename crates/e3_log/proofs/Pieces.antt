@@ -122,3 +122,7 @@ limit_low capacity Second = omega arith
 pub gate_room : (capacity : ℕ) (region : Region) → 2 ≤ capacity → start capacity region + 1 ≤ limit capacity region
 gate_room capacity First least = omega arith
 gate_room capacity Second least = omega arith
+
+pub start_low : (capacity : ℕ) (region : Region) → start capacity region ≤ half capacity
+start_low capacity First = omega arith
+start_low capacity Second = omega arith

@@ -4,7 +4,9 @@ use Rattle.std.proofs.Common.{subst, ◌≡◌, ℕ, ◌+◌, ◌-◌, ◌^◌, 
 use Rattle.std.proofs.lemmas.Nat.{from_be_bytes-to_be_bytes_4}
 use Rattle.std.specs.Int.{w32, to_be_bytes, from_be_bytes}
 use Rattle.e3_log.specs.Frames.{OPEN, frame, IsClosed, NoFrame}
-use Rattle.e3_log.specs.Opening.{FrameAt}
+use Rattle.e3_log.specs.Opening.{FrameAt, IsSized}
+use Rattle.e3_log.specs.Regions.{window}
+use Rattle.e3_log.proofs.Windows.{window_full}
 
 is_shut : (rest : List ℕ) → get_or (take 1 rest) 0 0 ≡ OPEN → IsClosed rest → ⊥
 is_shut [] is closed = closed
@@ -55,3 +57,25 @@ frame_at content at n body is size-is below body-is within =
 -- nothing begins behind the last byte
 pub end_is_damage : (l : List ℕ) (at : ℕ) → length l ≤ at → NoFrame (drop at l)
 end_is_damage l at past = subst (λ (x : List ℕ). NoFrame x) (sym (drop_all at l past)) (record { shut = λ closed. closed; none = λ body rest fits e. absurd cc })
+
+-- what was read of a range at the place of a head
+pub record HeadRead (from count at n : ℕ) (bytes : List ℕ) : Type 0 where
+  pub inside : from + count ≤ length bytes
+  pub gate : get_or (take 1 (drop at (window from count bytes))) 0 0 ≡ OPEN
+  pub size : to_be_bytes w32 n ≡ take 4 (drop (at + 1) (window from count bytes))
+  pub below : n < 2 ^ 32
+
+pub head_short : (from count at : ℕ) (bytes : List ℕ) → from + count ≤ length bytes → get_or (take 1 (drop at (window from count bytes))) 0 0 ≡ OPEN
+    → count - at < 5 → NoFrame (drop at (window from count bytes))
+head_short from count at bytes inside gate short = short_is_damage (window from count bytes) at gate (omega (arith, window_full from count bytes inside))
+
+pub head_long : (from count at n : ℕ) (bytes : List ℕ) → HeadRead from count at n bytes → count - at - 5 < n → NoFrame (drop at (window from count bytes))
+head_long from count at n bytes head long = long_is_damage (window from count bytes) at n head.gate head.size head.below (omega (arith, window_full from count bytes head.inside))
+
+pub head_sized : (from count at n : ℕ) (bytes : List ℕ) → HeadRead from count at n bytes → 5 ≤ count - at → n ≤ count - at - 5 → IsSized count (window from count bytes) at n
+head_sized from count at n bytes head five fits =
+    let full = window_full from count bytes head.inside in
+    record {
+      within = omega arith;
+      frame_is = λ body is. frame_at (window from count bytes) at n body head.gate head.size head.below is (omega (arith, full));
+    }

@@ -1,12 +1,14 @@
 -- What stands at a place of a disk, a frame or a closed gate; and what calls that only read ask of a disk, and do to it.
-use Rattle.std.specs.Prelude.{◌≡◌, ℕ, ◌+◌, ◌-◌, ◌^◌, ◌<◌, ◌≤◌, true, false, Option, Some, None, Result, IsErrOf, List, ◌++◌, length, drop}
+use Rattle.std.specs.Prelude.{◌≡◌, ℕ, ◌+◌, ◌-◌, ◌^◌, ◌<◌, ◌≤◌, true, false, Option, Some, None, Result, IsErrOf, List, ◌++◌, length, take, drop}
 use Rattle.e3_disk.specs.Images.{Within}
 use Rattle.e3_disk.specs.Meaning.{Meaning}
 use Rattle.e3_disk.specs.Meters.{Meters, HasFailed, Keeps}
 use Rattle.e3_log.specs.declared.fault.OpenCause.{OpenCause}
 use Rattle.e3_log.specs.declared.fault.OpenCause.TheVariants.{Failed}
+use Rattle.e3_log.specs.declared.open.FrameHead.{FrameHead}
+use Rattle.e3_log.specs.declared.open.FrameHead.TheVariants.{Shut, Whole, Broken}
 use Rattle.e3_log.specs.declared.open.Span.{Span}
-use Rattle.e3_log.specs.Frames.{frame, IsClosed, Fits}
+use Rattle.e3_log.specs.Frames.{frame, IsClosed, Fits, NoFrame}
 
 -- The bytes at this place are the frame of this body.
 pub record FrameAt (content : List ℕ) (at : ℕ) (body : List ℕ) : Type 0 where
@@ -18,6 +20,17 @@ pub record FrameAt (content : List ℕ) (at : ℕ) (body : List ℕ) : Type 0 wh
 abbrev pub NextIs : List ℕ → ℕ → Option (List ℕ) → Type 0
 NextIs content at None = IsClosed (drop at content)
 NextIs content at (Some body) = FrameAt content at body
+
+-- At this place begins a frame whose body has this length, and it ends within so many bytes.
+pub record IsSized (count : ℕ) (content : List ℕ) (at size : ℕ) : Type 0 where
+  pub within : at + 5 + size ≤ count
+  pub frame_is : (body : List ℕ) → body ≡ take size (drop (at + 5) content) → FrameAt content at body
+
+-- The bytes at this place are the head of a frame that ends within so many bytes, a closed gate, or neither.
+abbrev pub HeadIs : ℕ → List ℕ → ℕ → FrameHead → Type 0
+HeadIs count content at Shut = IsClosed (drop at content)
+HeadIs count content at (Whole size) = IsSized count content at size
+HeadIs count content at Broken = NoFrame (drop at content)
 
 -- So many calls are taken from an armed disk, which has more than those left.
 abbrev pub TakesCalls : ℕ → Meters → Meters → Type 0

@@ -4,7 +4,7 @@ ghost use Rattle.std.specs.Int.{w32, to_be_bytes};
 ghost use Rattle.e3_log.specs.Found.{ReadsTo};
 ghost use Rattle.e3_log.specs.Frames.{OPEN as OPEN_GATE, NoFrame, BrokenAt};
 ghost use Rattle.e3_log.specs.Fronts.{FrontIs, told_by};
-ghost use Rattle.e3_log.specs.Opening.{Looks, MayRead, NextIs};
+ghost use Rattle.e3_log.specs.Opening.{HeadIs, Looks, MayRead, NextIs};
 ghost use Rattle.e3_log.specs.Regions.{window};
 
 use crate::OpenCause;
@@ -33,6 +33,14 @@ pub struct Span {
 struct Spot {
     span: Span,
     at: u64,
+}
+
+/// What stands at a place: a closed gate, a frame whose body has this length, or neither.
+#[derive(Clone, Copy)]
+pub enum FrameHead {
+    Shut,
+    Whole { size: u64 },
+    Broken,
 }
 
 // Reads bytes of a range, from a place on.
@@ -125,6 +133,28 @@ fn read_told<D: Disk>(disk: &mut D, spot: Spot, size: u64) -> Result<Option<u32>
     Ok(told_in(&head))
 }
 
+// What the bytes at a place are the head of.
+fn read_head<D: Disk>(disk: &mut D, spot: Spot) -> Result<FrameHead, OpenCause>
+    requires within { spot.at < spot.span.count }
+    requires may { MayRead D.meaning disk.old spot.span }
+    ensures head { IfOk result (HeadIs spot.span.count (window spot.span.from spot.span.count (D.meaning.content disk.old)) spot.at) }
+    ensures cause { IfErr result (λ e. e ≡ OpenCause.Failed) }
+    ensures looks { Looks D.meaning disk.old disk.new result }
+{
+    let Spot { span, at } = spot;
+    if !is_open(disk, spot)? {
+        return Ok(FrameHead::Shut);
+    }
+    if span.count - at < 5 {
+        return Ok(FrameHead::Broken);
+    }
+    let size = u64::from(read_size(disk, Spot { span, at: at + 1 })?);
+    if span.count - at - 5 < size {
+        return Ok(FrameHead::Broken);
+    }
+    Ok(FrameHead::Whole { size })
+}
+
 /// How a range begins.
 pub fn read_front<D: Disk>(disk: &mut D, span: Span) -> Result<Front, OpenCause>
     requires some { 0 < span.count }
@@ -133,18 +163,14 @@ pub fn read_front<D: Disk>(disk: &mut D, span: Span) -> Result<Front, OpenCause>
     ensures cause { IfErr result (λ e. e ≡ OpenCause.Failed) }
     ensures looks { Looks D.meaning disk.old disk.new result }
 {
-    if !is_open(disk, Spot { span, at: 0 })? {
-        return Ok(Front::Shut);
+    match read_head(disk, Spot { span, at: 0 })? {
+        FrameHead::Shut => Ok(Front::Shut),
+        FrameHead::Broken => Ok(Front::Broken),
+        FrameHead::Whole { size } => {
+            let told = read_told(disk, Spot { span, at: 5 }, size)?;
+            Ok(Front::Whole { told })
+        }
     }
-    if span.count < 5 {
-        return Ok(Front::Broken);
-    }
-    let size = u64::from(read_size(disk, Spot { span, at: 1 })?);
-    if span.count - 5 < size {
-        return Ok(Front::Broken);
-    }
-    let told = read_told(disk, Spot { span, at: 5 }, size)?;
-    Ok(Front::Whole { told })
 }
 
 // The body of the frame at a place, or nothing where a closed gate stands there.
@@ -165,18 +191,14 @@ fn read_frame<D: Disk>(
     if at == span.count {
         return Err(OpenCause::Damaged { at: place });
     }
-    if !is_open(disk, Spot { span, at })? {
-        return Ok(None);
+    match read_head(disk, Spot { span, at })? {
+        FrameHead::Shut => Ok(None),
+        FrameHead::Broken => Err(OpenCause::Damaged { at: place }),
+        FrameHead::Whole { size } => {
+            let body = read_body(alloc, disk, Spot { span, at: at + 5 }, size)?;
+            Ok(Some(body))
+        }
     }
-    if span.count - at < 5 {
-        return Err(OpenCause::Damaged { at: place });
-    }
-    let size = u64::from(read_size(disk, Spot { span, at: at + 1 })?);
-    if span.count - at - 5 < size {
-        return Err(OpenCause::Damaged { at: place });
-    }
-    let body = read_body(alloc, disk, Spot { span, at: at + 5 }, size)?;
-    Ok(Some(body))
 }
 
 /// The frames of a range up to the closed gate, and the place of that in the range.

@@ -30,4 +30,6 @@ pub mod Outcomes
 pub mod Planning
 pub mod Results
 pub mod Ended
+pub mod Refused
+pub mod Inside
 pub mod Written

@@ -196,3 +196,33 @@ spared_told meaning sc h site old (Down new logged) (Failed kept inc why) made t
 spared_told meaning sc h site old (Down new logged) Missed made takes is = absurd cc
 spared_told meaning sc h site old (Down new logged) NoMemory made takes is = takes
 spared_told meaning sc h site old (Down new logged) Foreign made takes is = absurd made
+
+-- no rise is told as one of a site that is up, or as one that a full history refused
+pub never_up : (r : Raised) → told_of r ≡ Err rise_fault.Up → ⊥
+never_up (Risen kept inc) is = absurd cc
+never_up (Failed kept inc why) is = absurd cc
+never_up Missed is = absurd cc
+never_up NoMemory is = absurd cc
+never_up Foreign is = absurd cc
+
+pub never_full : (r : Raised) → told_of r ≡ Err rise_fault.HistoryFull → ⊥
+never_full (Risen kept inc) is = absurd cc
+never_full (Failed kept inc why) is = absurd cc
+never_full Missed is = absurd cc
+never_full NoMemory is = absurd cc
+never_full Foreign is = absurd cc
+
+-- what is entered of a rise that is told as missed, and of one that is told as wanting memory
+pub missed_entered : (site : ℕ) (r : Raised) → told_of r ≡ Err rise_fault.Missed → entered_by site r ≡ record { owner = site; act = Miss } ∷ []
+missed_entered site (Risen kept inc) is = absurd cc
+missed_entered site (Failed kept inc why) is = absurd cc
+missed_entered site Missed is = refl
+missed_entered site NoMemory is = absurd cc
+missed_entered site Foreign is = absurd cc
+
+pub spared_entered : (site : ℕ) (r : Raised) → told_of r ≡ Err rise_fault.NoMemory → entered_by site r ≡ []
+spared_entered site (Risen kept inc) is = absurd cc
+spared_entered site (Failed kept inc why) is = absurd cc
+spared_entered site Missed is = absurd cc
+spared_entered site NoMemory is = refl
+spared_entered site Foreign is = refl

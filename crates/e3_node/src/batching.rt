@@ -1,4 +1,5 @@
 // Several packets of a site that is up, by its worker: their steps have one frame.
+// Why what it owns is handed to `drop`: docs/DECISIONS.md, "What owns much is handed to `drop`".
 ghost use Rattle.std.specs.Prelude.{◌≡◌, ◌≤◌, ◌<◌, ◌+◌, ◌^◌, ◌++◌, ◌∷◌, [], None, true, false, ℕ, length, take, vec_capacity, IfOk, IfSome, OnOk, OnErr, List as Items};
 ghost use Rattle.e3_site.specs.StandsAlike.{IsLogInOrder, StandsAlike};
 ghost use Rattle.e3_node.specs.Batched.{AreAdded, BatchAt, HasNoMoreRoom, HasPlanned, IsBatchAt, IsLonger, OnlyForMemory, TakesNoMore, first_of};
@@ -17,7 +18,7 @@ use crate::InputFault;
 use crate::briefing::{Room, shorten_batch, spare_for};
 use crate::drafts::{Draft, planned};
 use crate::site_log::Short;
-use crate::stepping::{room_for, step_of};
+use crate::stepping::{room_for, step_with};
 use e3_disk::Disk;
 use e3_log::Log;
 use e3_site::Site;
@@ -171,10 +172,7 @@ fn add_one<D: Disk>(
     match one_more(shared, number, site, log, spare, batch, &draft) {
         Ok(more) => match more {
             Some(longer) => {
-                let Draft { plan, body, inputs } = draft;
-                drop(body);
-                drop(inputs);
-                let step = step_of(number, input.copy(), site.apply(plan));
+                let step = step_with(number, site, input.copy(), draft);
                 batch.steps.push_reserved(step);
                 lengthen(batch, longer);
                 Ok(true)
@@ -184,7 +182,6 @@ fn add_one<D: Disk>(
                 Ok(false)
             }
         },
-        // Handed to `drop`, the draft is given back by one call.
         Err(fault) => {
             drop(draft);
             Err(fault)

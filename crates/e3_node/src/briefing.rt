@@ -1,4 +1,5 @@
 // The short log that a log is turned to, where a frame has no room behind it.
+// Why what it owns is handed to `drop`: docs/DECISIONS.md, "What owns much is handed to `drop`".
 ghost use Rattle.std.specs.Prelude.{◌≡◌, ◌≢◌, ◌≤◌, ◌<◌, [], ℕ, false, length, take, List as Items, IfOk, IsSome, Some as Given, None, Ok, Err};
 ghost use Rattle.std.specs.List.{AllByRecursion as Each};
 ghost use Rattle.e3_world.specs.Brief.{brief};
@@ -65,7 +66,9 @@ fn brief_read(alloc: Global, site: u32, read: &[Record]) -> Result<List<Record>,
     ensures never { IsOrderly site read.now → result ≡ Err unready.Foreign → ⊥ }
 {
     let before = rebuilt(alloc, site, read)?;
-    Ok(brief_of_site(alloc, &before)?)
+    let brief = brief_of_site(alloc, &before);
+    drop(before);
+    Ok(brief?)
 }
 
 /// What the log that a rise read is turned to, where the frame of the rise has no room behind it, and only there. An empty log

@@ -1,4 +1,5 @@
 // A step that is ready to be made.
+// Why what it owns is handed to `drop`: docs/DECISIONS.md, "What owns much is handed to `drop`".
 ghost use Rattle.std.specs.Prelude.{◌≡◌, ◌<◌, IfOk, length};
 ghost use Rattle.e3_node.specs.Drafts.{IsAsBefore, IsDraft, IsReady};
 ghost use Rattle.e3_site.specs.SiteView.{Stands};
@@ -25,7 +26,8 @@ fn parts_of(alloc: Global, plan: &Plan, input: &Input) -> Result<(List<u8>, List
 {
     let body = spelled(alloc, plan.records())?;
     let mut inputs = List::new(alloc);
-    inputs.push(input.copy())?;
+    let over = input.copy();
+    inputs.push(over)?;
     Ok((body, inputs))
 }
 
@@ -36,7 +38,6 @@ fn draft_of(alloc: Global, plan: Plan, input: &Input) -> Result<Draft, NoMemory>
 {
     match parts_of(alloc, &plan, input) {
         Ok((body, inputs)) => Ok(Draft { plan, body, inputs }),
-        // Handed to `drop`, the plan is given back by one call.
         Err(fault) => {
             drop(plan);
             Err(fault)

@@ -31,8 +31,8 @@ ghost use Rattle.e3_world.specs.Items.{add_txn, is_up_at, open_at};
 ghost use Rattle.e3_world.specs.Legal.{IsCut, IsDue, IsRising, entry_of, made_by};
 ghost use Rattle.e3_world.specs.Moves.{log_of, rows_at};
 
-use crate::entering::{claim, enter, is_full};
-use crate::readying::wish_of;
+use crate::entering::{claim, enter};
+use crate::readying::claim_rise;
 use crate::rising::{enter_rise, risen, told};
 use crate::state::{arm, into_disk, unpowered};
 use crate::stepping::{settle, take_input};
@@ -164,12 +164,7 @@ impl<D: Disk + Drill + Drop> Node<D> {
         if self.is_up() {
             return Err(RiseFault::Up);
         }
-        if is_full(shared) {
-            return Err(RiseFault::HistoryFull);
-        }
-        let alloc = shared.alloc();
-        let wish = wish_of(alloc, self.site, &self.weights, &self.rows)?;
-        claim(shared, self.site, 0)?;
+        let wish = claim_rise(shared, self.site, &self.weights, &self.rows)?;
         let raised = replace_with(&mut self.state, wish, risen::<D>);
         enter_rise(shared, self.site, raised);
         told(raised)
@@ -329,9 +324,6 @@ impl<D: Disk + Drill + Drop> Node<D> {
     {
         if !self.is_up() {
             return Err(CutFault::Down);
-        }
-        if is_full(shared) {
-            return Err(CutFault::HistoryFull);
         }
         claim(shared, self.site, 0)?;
         replace_with(&mut self.state, (), unpowered::<D>);

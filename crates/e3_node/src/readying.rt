@@ -1,18 +1,24 @@
 // A rise that is ready to be made.
-ghost use Rattle.std.specs.Prelude.{◌≡◌, ◌<◌, ◌^◌, suc, length, Err, IfOk};
+// Why what it owns is handed to `drop`: docs/DECISIONS.md, "What owns much is handed to `drop`".
+ghost use Rattle.std.specs.Prelude.{◌≡◌, ◌≤◌, ◌<◌, ◌^◌, ◌↔◌, suc, length, Err, IfOk, OnOk, OnErr};
 ghost use Rattle.e3_log.specs.Found.{bodies_of};
 ghost use Rattle.e3_node.specs.Rising.{IsForeign, IsReady, IsWish, NextIsCounted, born_by, records_by};
+ghost use Rattle.e3_node.specs.SharedStands.{IsClaimed, SharedStands};
 ghost use Rattle.e3_node.specs.declared.readying.Unready.TheVariants as unready;
 ghost use Rattle.e3_site.specs.Rebuilt.{IsRebuilt, StandsForEach};
+ghost use Rattle.e3_wire.specs.Marks.{entries_of, last_owner, most_of};
+ghost use Rattle.e3_wire.specs.declared.fault.WireFault.TheVariants.{HistoryFull};
 ghost use Rattle.e3_world.specs.Logs.{logged_inc};
 ghost use Rattle.e3_world.specs.Orderly.{IsOrderly};
 
+use crate::entering::{claim, is_full};
 use crate::fitting::spelled;
 use crate::reading::read_frames;
 use e3_log::Frame;
 use e3_readings::logged_inc;
 use e3_site::{RebuildFault, Site, rebuild};
 use e3_types::{Copied, List, NoMemory, Record, Row};
+use e3_wire::{Shared, WireFault};
 use std::alloc::Global;
 
 /// What a rise takes with it to the disk: the site's number, weights and first rows.
@@ -56,8 +62,8 @@ impl From<NoMemory> for Unready {
     }
 }
 
-/// What a rise of this site takes with it.
-pub(crate) fn wish_of(
+// What a rise of this site takes with it.
+fn wish_of(
     alloc: Global,
     site: u32,
     weights: &List<u32>,
@@ -71,6 +77,35 @@ pub(crate) fn wish_of(
         weights: weights.copied(alloc)?,
         rows: rows.copied(alloc)?,
     })
+}
+
+/// What a rise of this site takes with it, and a place is claimed for its entry. A full history is told before want of memory.
+pub(crate) fn claim_rise(
+    shared: &mut Shared,
+    site: u32,
+    weights: &List<u32>,
+    rows: &List<Row>,
+) -> Result<Wish, WireFault>
+    requires shared { SharedStands shared.old }
+    requires exists { site ≤ last_owner shared.old }
+    ensures wish { IfOk result (IsWish site weights.now rows.now) }
+    ensures claimed { OnOk result (IsClaimed site 0 shared.old shared.new) }
+    ensures kept { OnErr result (shared.new ≡ shared.old) }
+    ensures full { (result ≡ Err HistoryFull) ↔ (most_of shared.old ≤ length (entries_of shared.old)) }
+{
+    if is_full(shared) {
+        return Err(WireFault::HistoryFull);
+    }
+    match wish_of(shared.alloc(), site, weights, rows) {
+        Ok(wish) => match claim(shared, site, 0) {
+            Ok(()) => Ok(wish),
+            Err(fault) => {
+                drop(wish);
+                Err(fault)
+            }
+        },
+        Err(_) => Err(WireFault::NoMemory),
+    }
 }
 
 // The birth, where the log is empty.

@@ -1,4 +1,5 @@
 // An input of a site that is up.
+// Why what it owns is handed to `drop`: docs/DECISIONS.md, "What owns much is handed to `drop`".
 ghost use Rattle.std.specs.Prelude.{◌≡◌, ◌≢◌, ◌^◌, ◌<◌, ◌≤◌, ◌++◌, ◌∷◌, ◌↔◌, [], true, false, length, IfOk, OnOk, OnErr, Err, List as Items};
 ghost use Rattle.e3_disk.specs.Meters.{Keeps};
 ghost use Rattle.e3_node.specs.Bodies.{DiskTells};
@@ -10,10 +11,11 @@ ghost use Rattle.e3_node.specs.Briefing.{HasBody, IsBriefOf};
 ghost use Rattle.e3_node.specs.SharedStands.{IsClaimed, MayGoOn, SharedGoesOn, SharedStands};
 ghost use Rattle.e3_node.specs.declared.fault.InputFault.{InputFault as InputFaults};
 ghost use Rattle.e3_node.specs.declared.fault.InputFault.TheVariants as input_fault;
-ghost use Rattle.e3_site.specs.SiteView.{entry_of_plan};
+ghost use Rattle.e3_site.specs.SiteView.{HasRoomFor, IsPlanOf, Stands, count_on, entry_of_plan, planned_step, with_step};
 ghost use Rattle.e3_node.specs.site_log.Ends.{HasRoom, HasRoomUnlessShort, IsReason, IsShortIf, Takes, calls_for, size_of};
 ghost use Rattle.e3_play.specs.Entering.{IsFirst};
 ghost use Rattle.e3_types.specs.declared.entries.Act.TheVariants as act;
+ghost use Rattle.e3_types.specs.declared.entries.Input.{Input as Taken};
 ghost use Rattle.e3_types.specs.declared.entries.Why.{Why as Whys};
 ghost use Rattle.e3_types.specs.declared.entries.Why.TheVariants.{Fault};
 ghost use Rattle.e3_types.specs.declared.records.Record.{Record as Records};
@@ -21,6 +23,7 @@ ghost use Rattle.e3_wire.specs.Marks.{entries_of, last_owner, most_of, scenario_
 ghost use Rattle.e3_world.specs.Items.{is_up_at};
 ghost use Rattle.e3_world.specs.Legal.{IsDue, entry_of, made_by};
 ghost use Rattle.e3_world.specs.Moves.{log_of};
+ghost use Rattle.e3_world.specs.declared.lives.Incarnation.{Incarnation};
 
 use crate::briefing::shorten;
 use crate::drafts::{Draft, prepare};
@@ -44,8 +47,8 @@ pub(crate) fn room_for(outs: &[Packet]) -> u32
     outs.len() as u32
 }
 
-/// The entry of a step that a site made of an input, its packets without numbers.
-pub(crate) fn step_of(owner: u32, input: Input, made: SiteStep) -> Entry
+// The entry of a step that a site made of an input, its packets without numbers.
+fn step_of(owner: u32, input: Input, made: SiteStep) -> Entry
     ensures { result ≡ entry_of_plan owner input made }
 {
     let act = Act::Step {
@@ -55,6 +58,20 @@ pub(crate) fn step_of(owner: u32, input: Input, made: SiteStep) -> Entry
         told: made.told,
     };
     Entry { owner, act }
+}
+
+/// The site does the step of this draft: the entry of that, its packets without numbers.
+pub(crate) fn step_with(owner: u32, site: &mut Site, input: Input, draft: Draft) -> Entry
+    requires of_site { IsPlanOf draft.plan site.old }
+    requires room { HasRoomFor draft.plan site.old }
+    ensures entry { result ≡ entry_of_plan owner input draft.plan.step }
+    ensures done { site.new ≡ record site.old { inputs = count_on site.old.inputs; tables = site.new.tables } }
+    ensures stand { (now : Incarnation) (taken : Taken) → Stands now site.old → draft.plan.step ≡ planned_step now site.old taken → Stands (with_step now draft.plan.step) site.new }
+{
+    let Draft { plan, body, inputs } = draft;
+    drop(body);
+    drop(inputs);
+    step_of(owner, input, site.apply(plan))
 }
 
 /// The entry of a fall.
@@ -157,7 +174,6 @@ fn step<D: Disk>(
 {
     logs_are_sound();
     if is_full(shared) {
-        // Handed to `drop`, a value is given back by one call.
         drop(input);
         return Err(InputFault::HistoryFull);
     }
@@ -167,10 +183,7 @@ fn step<D: Disk>(
                 let (records, body) = (draft.plan.records(), draft.body.as_slice());
                 match write(log, logged, &short, records, body) {
                     Ok(()) => {
-                        let Draft { plan, body, inputs } = draft;
-                        drop(body);
-                        drop(inputs);
-                        let step = step_of(number, input, site.apply(plan));
+                        let step = step_with(number, site, input, draft);
                         enter(shared, step);
                         Ok(())
                     }

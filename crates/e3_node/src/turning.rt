@@ -1,4 +1,5 @@
 // An input of a site that is up, by its worker.
+// Why what it owns is handed to `drop`: docs/DECISIONS.md, "What owns much is handed to `drop`".
 ghost use Rattle.std.specs.Prelude.{◌≡◌, ◌≢◌, ◌≤◌, ◌<◌, ◌^◌, ◌↔◌, [], true, false, length, IfOk, OnOk, OnErr, Err, List as Items};
 ghost use Rattle.e3_disk.specs.Meters.{Keeps};
 ghost use Rattle.e3_laws.specs.local.Drafts.{MayTake};
@@ -26,7 +27,7 @@ use crate::briefing::shorten;
 use crate::drafts::{Draft, prepare_by_turns};
 use crate::law::logs_are_sound;
 use crate::site_log::{Short, write};
-use crate::stepping::{fall_over, room_for, step_of};
+use crate::stepping::{fall_over, room_for, step_with};
 use crate::{InputFault, State};
 use e3_disk::Disk;
 use e3_log::Log;
@@ -120,14 +121,10 @@ fn step_by_turns<R: Wait, D: Disk>(
                 let (records, body) = (draft.plan.records(), draft.body.as_slice());
                 match write(log, logged, &short, records, body) {
                     Ok(()) => {
-                        let Draft { plan, body, inputs } = draft;
-                        drop(body);
-                        drop(inputs);
-                        let step = step_of(number, input, site.apply(plan));
+                        let step = step_with(number, site, input, draft);
                         wire.commit_entry(rt, pass, step);
                         Ok(())
                     }
-                    // Handed to `drop`, a value is given back by one call.
                     Err(why) => {
                         drop(input);
                         let fall = fall_over(number, draft, why);

@@ -209,8 +209,13 @@ pub(crate) fn claims_by(doings: &Doings<'_>, pick: &Pick, was: &Claims) -> Resul
     ensures { IfOk result (λ c. c ≡ claims_by (passes pick.now) was.now doings.now.new.now doings.now.records.now doings.now.events.now doings.now.outs.now) }
 {
     let mut out = no_claims(doings.alloc);
-    add_claims(doings, pick, was, &mut out)?;
-    Ok(out)
+    match add_claims(doings, pick, was, &mut out) {
+        Ok(()) => Ok(out),
+        Err(e) => {
+            drop(out);
+            Err(e)
+        }
+    }
 }
 
 fn written(was: Answer, a: &Asked) -> Answer
@@ -281,7 +286,12 @@ pub fn row_by(
 }
 
 // A bare place becomes what stands on a name behind a step.
-fn fill(doings: &Doings<'_>, name: &Name, was: &Place, out: &mut Place) -> Result<(), NoMemory>
+fn fill_place(
+    doings: &Doings<'_>,
+    name: &Name,
+    was: &Place,
+    out: &mut Place,
+) -> Result<(), NoMemory>
     requires { out.old ≡ bare }
     ensures { IfOk result (λ u. out.new ≡ place_by name.now was.now doings.now.new.now doings.now.records.now doings.now.events.now doings.now.outs.now) }
 {
@@ -294,6 +304,11 @@ pub(crate) fn place_by(doings: &Doings<'_>, name: &Name, was: &Place) -> Result<
     ensures { IfOk result (λ p. p ≡ place_by name.now was.now doings.now.new.now doings.now.records.now doings.now.events.now doings.now.outs.now) }
 {
     let mut out = bare(doings.alloc);
-    fill(doings, name, was, &mut out)?;
-    Ok(out)
+    match fill_place(doings, name, was, &mut out) {
+        Ok(()) => Ok(out),
+        Err(e) => {
+            drop(out);
+            Err(e)
+        }
+    }
 }

@@ -166,8 +166,14 @@ fn ready_name(alloc: Global, names: &mut PlaceMap, name: &Name) -> Result<(), No
         return Ok(());
     }
     match names.insert(name.copy(), bare(alloc)) {
-        Ok(_) => Ok(()),
-        Err(_) => Err(NoMemory),
+        Ok(was) => {
+            drop(was);
+            Ok(())
+        }
+        Err(failed) => {
+            drop(failed.value.1);
+            Err(NoMemory)
+        }
     }
 }
 
@@ -192,8 +198,14 @@ fn ready_txn(alloc: Global, txns: &mut ClaimsMap, key: TxnId) -> Result<(), NoMe
         return Ok(());
     }
     match txns.insert(key, no_claims(alloc)) {
-        Ok(_) => Ok(()),
-        Err(_) => Err(NoMemory),
+        Ok(was) => {
+            drop(was);
+            Ok(())
+        }
+        Err(failed) => {
+            drop(failed.value.1);
+            Err(NoMemory)
+        }
     }
 }
 

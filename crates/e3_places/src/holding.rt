@@ -13,7 +13,8 @@ fn add_held(records: &[Record], s: &Standing, out: &mut List<Lock>) -> Result<()
     ensures { IfOk result (λ u. out.new ≡ out.old ++ held_by records.now s.now) }
 {
     if s.answered && !decided_in(records, &s.asked.txn) {
-        out.push(lock_for(&s.asked))?;
+        let lock = lock_for(&s.asked);
+        out.push(lock)?;
     }
     Ok(())
 }
@@ -38,7 +39,8 @@ pub fn held(
         add_held(records, s, &mut out)?;
     }
     for a in votes.as_slice() {
-        out.push(lock_for(a))?;
+        let lock = lock_for(a);
+        out.push(lock)?;
     }
     Ok(out)
 }
@@ -47,7 +49,8 @@ fn add_wanted(records: &[Record], s: &Standing, out: &mut List<Lock>) -> Result<
     ensures { IfOk result (λ u. out.new ≡ out.old ++ wanted_by records.now s.now) }
 {
     if !s.answered && !decided_in(records, &s.asked.txn) {
-        out.push(lock_for(&s.asked))?;
+        let lock = lock_for(&s.asked);
+        out.push(lock)?;
     }
     Ok(())
 }

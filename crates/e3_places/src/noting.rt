@@ -32,7 +32,7 @@ fn put_voted(alloc: Global, names: &mut PlaceMap, name: &Name, a: &Asked) -> Res
     put_place(names, name, place)
 }
 
-fn add_vote(alloc: Global, names: &mut PlaceMap, a: &Asked) -> Result<(), NoMemory>
+fn put_vote(alloc: Global, names: &mut PlaceMap, a: &Asked) -> Result<(), NoMemory>
     ensures { OnOk result ((n : Items ℕ) → place_at names.new.entries n ≡ with_vote n (place_at names.old.entries n) a.now) }
 {
     let name = &key_of(&a.op).name;
@@ -42,11 +42,11 @@ fn add_vote(alloc: Global, names: &mut PlaceMap, a: &Asked) -> Result<(), NoMemo
     }
 }
 
-fn add_votes(alloc: Global, names: &mut PlaceMap, t: &Txn, ops: &[NumOp]) -> Result<(), NoMemory>
+fn put_votes(alloc: Global, names: &mut PlaceMap, t: &Txn, ops: &[NumOp]) -> Result<(), NoMemory>
     ensures { OnOk result ((n : Items ℕ) → place_at names.new.entries n ≡ fold (with_vote n) (place_at names.old.entries n) (map (voted t.now) ops.now)) }
 {
     for o in ops {
-        add_vote(alloc, names, &voted(t, o))?;
+        put_vote(alloc, names, &voted(t, o))?;
     }
     Ok(())
 }
@@ -66,7 +66,7 @@ fn cast(alloc: Global, places: &mut Places, t: &Txn, ops: &[NumOp]) -> Result<()
     ensures { OnOk result ((site inc : ℕ) (before : Items Entry) → PlacesStand site places.old (risen inc before) → follow before (log.Vote t.now ops.now ∷ []) ≡ true
         → PlacesStand site places.new (risen inc (before ++ log.Vote t.now ops.now ∷ []))) }
 {
-    add_votes(alloc, &mut places.names, t, ops)?;
+    put_votes(alloc, &mut places.names, t, ops)?;
     add_votes_of(alloc, &mut places.txns, t, ops)
 }
 
@@ -141,15 +141,20 @@ fn end_each(
 }
 
 // A decision: the transaction's votes go, and where it commits their writes stand in the rows.
-fn end(alloc: Global, places: &mut Places, t: &Txn, dir: Dir) -> Result<(), NoMemory>
-    ensures { OnOk result ((site inc : ℕ) (before : Items Entry) → PlacesStand site places.old (risen inc before) → follow before (log.Decision t.now dir ∷ []) ≡ true
-        → PlacesStand site places.new (risen inc (before ++ log.Decision t.now dir ∷ []))) }
+fn end(alloc: Global, places: &mut Places, t: &Txn, _dir: Dir, r: &Record) -> Result<(), NoMemory>
+    requires { r.now ≡ log.Decision t.now _dir }
+    ensures { OnOk result ((site inc : ℕ) (before : Items Entry) → PlacesStand site places.old (risen inc before) → follow before (log.Decision t.now _dir ∷ []) ≡ true
+        → PlacesStand site places.new (risen inc (before ++ log.Decision t.now _dir ∷ []))) }
 {
-    let r = Record::Decision { txn: *t, dir };
     let key = txn_id(t);
     let claims = take_claims(alloc, &mut places.txns, key)?;
-    end_each(alloc, &mut places.names, claims.votes.as_slice(), &r)?;
-    put_claims(&mut places.txns, key, left_by(&r, claims))
+    match end_each(alloc, &mut places.names, claims.votes.as_slice(), r) {
+        Ok(()) => put_claims(&mut places.txns, key, left_by(r, claims)),
+        Err(e) => {
+            drop(claims);
+            Err(e)
+        }
+    }
 }
 
 // A record that neither votes nor decides changes no table.
@@ -169,7 +174,7 @@ pub fn note(alloc: Global, places: &mut Places, r: &Record) -> Result<(), NoMemo
 {
     match r {
         Record::Vote { txn, ops } => cast(alloc, places, txn, ops.as_slice()),
-        Record::Decision { txn, dir } => end(alloc, places, txn, *dir),
+        Record::Decision { txn, dir } => end(alloc, places, txn, *dir, r),
         Record::Birth { .. } | Record::Inc { .. } | Record::Join { .. } | Record::Attempt { .. } =>
             {
                 pass(places, r);

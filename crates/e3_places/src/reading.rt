@@ -6,17 +6,26 @@ ghost use Rattle.e3_world.specs.Logs.{key_of, table_of, row_value};
 ghost use Rattle.e3_world.specs.Making.{log_now};
 ghost use Rattle.e3_world.specs.Operations.{holders, queue, waiting};
 ghost use Rattle.e3_readings.specs.Requests.{lock_for};
-ghost use Rattle.e3_places.specs.Standing.{follow};
+ghost use Rattle.e3_places.specs.Standing.{follow, held_with, wanted_with};
 ghost use Rattle.e3_places.specs.Keeping.{PlacesStand};
 
 use crate::behind::row_by;
 use crate::holding::{held, wanted};
-use crate::places::{Places, bare, place_or};
+use crate::places::{Claims, Places, bare, place_or};
 use e3_locks::lock_grant;
 use e3_readings::{key_of, lock_for};
-use e3_types::{Answer, Grant, Name, NoMemory};
+use e3_types::{Answer, Grant, Name, NoMemory, Record};
 use e3_world::{Asked, Made};
 use std::alloc::Global;
+
+// What the lock rule answers to a request over these claims, which it borrows.
+fn lock_by(alloc: Global, claims: &Claims, q: &Asked, records: &[Record]) -> Result<Grant, NoMemory>
+    ensures { IfOk result (λ g. g ≡ lock_grant (lock_for q.now) (held_with (key_of q.now.op).name records.now claims.now) (wanted_with records.now claims.now)) }
+{
+    let held = held(alloc, &key_of(&q.op).name, claims, records)?;
+    let queued = wanted(alloc, claims, records)?;
+    Ok(lock_grant(&lock_for(q), held.as_slice(), queued.as_slice()))
+}
 
 /// What the lock rule answers to a request, with the step's records: one look-up.
 pub fn lock(alloc: Global, places: &Places, q: &Asked, made: &Made) -> Result<Grant, NoMemory>
@@ -26,13 +35,11 @@ pub fn lock(alloc: Global, places: &Places, q: &Asked, made: &Made) -> Result<Gr
     ensures { IfOk result (λ g. g ≡ lock_grant (lock_for q.now) (holders a.site (key_of q.now.op).name (log_now a made.now) a.life.steps)
         (queue (key_of q.now.op).name (waiting a.site (log_now a made.now) a.life.steps))) }
 {
-    let name = &key_of(&q.op).name;
     let none = bare(alloc);
-    let place = place_or(&places.names, name, &none);
-    let records = made.records.as_slice();
-    let held = held(alloc, name, &place.claims, records)?;
-    let queued = wanted(alloc, &place.claims, records)?;
-    Ok(lock_grant(&lock_for(q), held.as_slice(), queued.as_slice()))
+    let place = place_or(&places.names, &key_of(&q.op).name, &none);
+    let grant = lock_by(alloc, &place.claims, q, made.records.as_slice());
+    drop(none);
+    grant
 }
 
 /// The value of a name in the table, with the step's records: one look-up.

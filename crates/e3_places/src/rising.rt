@@ -27,8 +27,14 @@ fn add_row(alloc: Global, names: &mut PlaceMap, row: &Row) -> Result<(), NoMemor
         row: Answer::Value(row.val.copy()),
     };
     match names.insert(row.name.copy(), place) {
-        Ok(_) => Ok(()),
-        Err(_) => Err(NoMemory),
+        Ok(was) => {
+            drop(was);
+            Ok(())
+        }
+        Err(failed) => {
+            drop(failed.value.1);
+            Err(NoMemory)
+        }
     }
 }
 

@@ -14,8 +14,14 @@ pub(crate) fn put_place(names: &mut PlaceMap, name: &Name, place: Place) -> Resu
     ensures { OnOk result ((n : Items ℕ) → place_at names.new.entries n ≡ (if same_numbers n name.now then place else place_at names.old.entries n)) }
 {
     match names.insert(name.copy(), place) {
-        Ok(_) => Ok(()),
-        Err(_) => Err(NoMemory),
+        Ok(was) => {
+            drop(was);
+            Ok(())
+        }
+        Err(failed) => {
+            drop(failed.value.1);
+            Err(NoMemory)
+        }
     }
 }
 
@@ -39,7 +45,13 @@ pub(crate) fn put_claims(txns: &mut ClaimsMap, key: TxnId, claims: Claims) -> Re
     ensures { OnOk result ((k : KeptKey) → claims_at txns.new.entries k ≡ (if is_key k key then claims else claims_at txns.old.entries k)) }
 {
     match txns.insert(key, claims) {
-        Ok(_) => Ok(()),
-        Err(_) => Err(NoMemory),
+        Ok(was) => {
+            drop(was);
+            Ok(())
+        }
+        Err(failed) => {
+            drop(failed.value.1);
+            Err(NoMemory)
+        }
     }
 }

@@ -207,14 +207,14 @@ fn add_names(asked: &[Asked], out: &mut List<Name>) -> Result<(), NoMemory>
     Ok(())
 }
 
-fn add_names_added(doings: &Doings<'_>, out: &mut List<Name>) -> Result<(), NoMemory>
+fn add_added_names(doings: &Doings<'_>, out: &mut List<Name>) -> Result<(), NoMemory>
     ensures { IfOk result (λ u. out.new ≡ out.old ++ map name_of (added doings.now.new.now doings.now.records.now)) }
 {
     let asked = added(doings)?;
     add_names(asked.as_slice(), out)
 }
 
-fn add_names_reached(doings: &Doings<'_>, out: &mut List<Name>) -> Result<(), NoMemory>
+fn add_reached_names(doings: &Doings<'_>, out: &mut List<Name>) -> Result<(), NoMemory>
     ensures { IfOk result (λ u. out.new ≡ out.old ++ flat_map (λ t. moved_names doings.now.records.now doings.now.events.now doings.now.outs.now (claims_at doings.now.places.now.txns.entries (txn_id t))) (reached doings.now.records.now doings.now.events.now doings.now.outs.now)) }
 {
     let txns = reached(doings)?;
@@ -226,12 +226,12 @@ pub(crate) fn names_touched(doings: &Doings<'_>) -> Result<List<Name>, NoMemory>
     ensures { IfOk result (λ out. out ≡ names_touched doings.now.places.now.txns.entries doings.now.new.now doings.now.records.now doings.now.events.now doings.now.outs.now) }
 {
     let mut out = List::new(doings.alloc);
-    add_names_added(doings, &mut out)?;
-    add_names_reached(doings, &mut out)?;
+    add_added_names(doings, &mut out)?;
+    add_reached_names(doings, &mut out)?;
     Ok(out)
 }
 
-fn add_keys_added(doings: &Doings<'_>, out: &mut List<TxnId>) -> Result<(), NoMemory>
+fn add_added_keys(doings: &Doings<'_>, out: &mut List<TxnId>) -> Result<(), NoMemory>
     ensures { IfOk result (λ u. out.new ≡ out.old ++ map (λ a. txn_id a.txn) (added doings.now.new.now doings.now.records.now)) }
 {
     let asked = added(doings)?;
@@ -241,7 +241,7 @@ fn add_keys_added(doings: &Doings<'_>, out: &mut List<TxnId>) -> Result<(), NoMe
     Ok(())
 }
 
-fn add_keys_reached(doings: &Doings<'_>, out: &mut List<TxnId>) -> Result<(), NoMemory>
+fn add_reached_keys(doings: &Doings<'_>, out: &mut List<TxnId>) -> Result<(), NoMemory>
     ensures { IfOk result (λ u. out.new ≡ out.old ++ map txn_id (reached doings.now.records.now doings.now.events.now doings.now.outs.now)) }
 {
     let txns = reached(doings)?;
@@ -256,7 +256,7 @@ pub(crate) fn keys_touched(doings: &Doings<'_>) -> Result<List<TxnId>, NoMemory>
     ensures { IfOk result (λ out. out ≡ keys_touched doings.now.new.now doings.now.records.now doings.now.events.now doings.now.outs.now) }
 {
     let mut out = List::new(doings.alloc);
-    add_keys_added(doings, &mut out)?;
-    add_keys_reached(doings, &mut out)?;
+    add_added_keys(doings, &mut out)?;
+    add_reached_keys(doings, &mut out)?;
     Ok(out)
 }

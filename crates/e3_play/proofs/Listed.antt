@@ -1,5 +1,6 @@
 -- The rounds of a recovery step as they are made: of what each site has open, in order.
-use Rattle.std.proofs.Common.{◌≡◌, ◌∙◌, [], ℕ, List, Result, Ok, Err, IfOk, fold, filter, ap}
+use Rattle.std.proofs.Common.{◌≡◌, ◌∙◌, ◌++◌, ◌∷◌, [], ℕ, Bool, true, false, cond, List, Result, Ok, Err, IfOk, append-nil, refl, fold, filter, sym, ap}
+use Rattle.std.proofs.lemmas.List.Elements.{filter-append}
 use Rattle.std.specs.List.{flat_map}
 use Rattle.e3_types.specs.declared.entries.Entry.{Entry}
 use Rattle.e3_types.specs.declared.scenarios.Scenario.{Scenario}
@@ -23,3 +24,13 @@ listed_parts sc h group up known is_up is_known =
 pub if_ok : {E : Type 0} (r : Result (List RecoveryRound) E) (xs ys : List RecoveryRound) → xs ≡ ys → IfOk r (λ rounds. rounds ≡ xs) → IfOk r (λ rounds. rounds ≡ ys)
 if_ok (Ok rounds) xs ys same is = is ∙ same
 if_ok (Err e) xs ys same is = tt
+
+-- one more site is among those that are up, or is not
+one_up : (p : ℕ → Bool) (xs : List ℕ) (x : ℕ) (is : Bool) → p x ≡ is → filter p (xs ++ x ∷ []) ≡ filter p xs ++ cond is (x ∷ []) []
+one_up p xs x is at = filter-append p xs (x ∷ []) ∙ rw at refl
+
+pub still_up : (p : ℕ → Bool) (xs : List ℕ) (x : ℕ) → p x ≡ false → filter p xs ≡ filter p (xs ++ x ∷ [])
+still_up p xs x at = sym (one_up p xs x false at ∙ append-nil (filter p xs))
+
+pub also_up : (p : ℕ → Bool) (xs : List ℕ) (x : ℕ) → p x ≡ true → filter p xs ++ x ∷ [] ≡ filter p (xs ++ x ∷ [])
+also_up p xs x at = sym (one_up p xs x true at)

@@ -12,12 +12,15 @@ mod spelled;
 mod texts;
 
 pub(crate) use entries::push_trace;
-pub(crate) use events::{push_answer, push_entry, push_told_text, push_why, push_word_line};
+pub(crate) use events::{
+    push_answer, push_entry, push_told_text, push_word_and_why, push_word_line,
+};
 pub use items::push_item;
 pub(crate) use items::push_items;
 pub(crate) use records::{push_records, push_rows};
 pub use spelled::{is_text, name_of, number_of_digits, one_of, place_of, value_of};
 pub use texts::{push_labelled, push_line, push_number, push_text};
 pub(crate) use texts::{
-    push_dir, push_kept, push_key, push_line_end, push_parts, push_sites, push_state, push_txn,
+    push_dir, push_kept, push_key, push_line_end, push_sites, push_state, push_txn,
+    push_word_and_bytes, push_word_and_parts,
 };

@@ -51,7 +51,8 @@ fn rise_in(
 {
     let mut out = List::new(alloc);
     if !born {
-        out.push(birth(alloc, scenario, site)?)?;
+        let first = birth(alloc, scenario, site)?;
+        out.push(first)?;
     }
     out.push(Record::Inc { inc })?;
     Ok(out)
@@ -217,7 +218,8 @@ pub(crate) fn log_in(
     let mut out = List::new(alloc);
     for p in placed {
         if p.site() as u64 == site {
-            out.push(p.entered().copied(alloc)?)?;
+            let record = p.entered().copied(alloc)?;
+            out.push(record)?;
         }
     }
     Ok(out)

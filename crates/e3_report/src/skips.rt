@@ -7,7 +7,7 @@ ghost use Rattle.e3_report.specs.Ups.{up_in};
 
 use crate::counts::one_more;
 use crate::known::Known;
-use crate::lines::{push_line, push_text, push_word_line};
+use crate::lines::{push_line, push_word_and_bytes, push_word_line};
 use crate::takers::{Taker, taker_of};
 use e3_readings::is_delivery;
 use e3_types::{Act, Entry, Input, Item, List, NoMemory};
@@ -68,8 +68,7 @@ fn count_of(sites: &[u32], site: u32) -> u64
 fn push_not_begun(out: &mut List<u8>, name: &[u8]) -> Result<(), NoMemory>
     ensures { OnOk result (out.new ≡ out.old ++ not_begun_line name.now) }
 {
-    push_text(out, "0: ")?;
-    out.extend(name)?;
+    push_word_and_bytes(out, "0: ", name)?;
     push_line(out, " not begun")
 }
 

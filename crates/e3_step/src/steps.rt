@@ -251,6 +251,11 @@ pub fn step_at<P: Past>(p: &P) -> Result<Made, NoMemory>
     takes_few(p, input)?;
     steps_send_few();
     let mut made = nothing(p.alloc());
-    make(p, input, &mut made)?;
-    Ok(made)
+    match make(p, input, &mut made) {
+        Ok(()) => Ok(made),
+        Err(e) => {
+            drop(made);
+            Err(e)
+        }
+    }
 }

@@ -1,7 +1,9 @@
 // What steps tell, read behind what earlier lines tell.
-ghost use Rattle.std.specs.Prelude.{◌≡◌, IfErr};
-ghost use Rattle.e3_trace.specs.Cuts.{Gives};
+ghost use Rattle.std.specs.Prelude.{◌≡◌, IfErr, codes};
+ghost use Rattle.e3_trace.specs.Cuts.{Gives, behind, made_of};
 ghost use Rattle.e3_trace.specs.Events.{of_of, verdict_of, refusal_by, refusal_of, event_by, event_of, told_by, told_of};
+ghost use Rattle.e3_trace.specs.Fields.{txn_of};
+ghost use Rattle.e3_types.specs.declared.entries.Told.TheVariants as told;
 
 use crate::cuts::{SPACE, behind, cut};
 use crate::faults::Fault;
@@ -81,6 +83,14 @@ fn refusal(known: &Known, text: &[u8]) -> Result<Refusal, Fault>
     }
 }
 
+fn died(known: &Known, txn: Txn, text: &[u8]) -> Result<Told, Fault>
+    ensures { Gives result (made_of (λ older. told.Died txn older) (behind (codes "for") (txn_of known.now)) text.now) }
+{
+    let rest = behind(text, "for")?;
+    let older = known.txn(rest)?;
+    Ok(Told::Died { txn, older })
+}
+
 #[tactic(auto, unfolding(crate::specs::Events::event_by))]
 fn event_by(known: &Known, txn: Txn, verb: &[u8], text: &[u8]) -> Result<Told, Fault>
     ensures { Gives result (event_by known.now txn verb.now text.now) }
@@ -88,9 +98,7 @@ fn event_by(known: &Known, txn: Txn, verb: &[u8], text: &[u8]) -> Result<Told, F
     if is_text(verb, "op") {
         <(u32, Answer)>::read(text).map(|(n, answer)| Told::Op { txn, n, answer })
     } else if is_text(verb, "died") {
-        let rest = behind(text, "for")?;
-        let older = known.txn(rest)?;
-        Ok(Told::Died { txn, older })
+        died(known, txn, text)
     } else if is_text(verb, "doomed") {
         <(u32, (u32, u32))>::read(text).map(|(site, (had, now))| Told::Doomed {
             txn,

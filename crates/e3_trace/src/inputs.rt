@@ -1,8 +1,9 @@
 // The inputs of sites, read behind what earlier lines tell.
 ghost use Rattle.e3_trace.specs.Cuts.{made_of, pair_of, Gives};
 ghost use Rattle.e3_report.specs.lines.Marks.{space};
-ghost use Rattle.e3_trace.specs.Fields.{sites_of, txn_of};
-ghost use Rattle.e3_trace.specs.Inputs.{elect_from, input_by, input_of};
+ghost use Rattle.e3_trace.specs.Fields.{op_of, sent_of, sites_of, txn_of};
+ghost use Rattle.e3_trace.specs.Inputs.{do_from, elect_from, input_by, input_of};
+ghost use Rattle.e3_types.specs.declared.entries.Input.TheVariants as input;
 ghost use Rattle.e3_trace.specs.Past.{knowing};
 ghost use Rattle.e3_world.specs.Packets.{sent};
 
@@ -15,6 +16,41 @@ use e3_report::lines::is_text;
 use e3_types::{Input, Op};
 use std::alloc::Global;
 
+fn begin(alloc: Global, text: &[u8]) -> Result<Input, Fault>
+    ensures { Gives result (made_of input.Begin sites_of text.now) }
+{
+    let sites = sites(alloc, text)?;
+    Ok(Input::Begin { sites })
+}
+
+fn call(known: &Known, text: &[u8]) -> Result<Input, Fault>
+    ensures { Gives result (made_of do_from (pair_of space (txn_of known.now) op_of) text.now) }
+{
+    let (txn, op) = known.txn_and::<Op>(text)?;
+    Ok(Input::Do { txn, op })
+}
+
+fn commit(known: &Known, text: &[u8]) -> Result<Input, Fault>
+    ensures { Gives result (made_of input.Commit (txn_of known.now) text.now) }
+{
+    let txn = known.txn(text)?;
+    Ok(Input::Commit { txn })
+}
+
+fn cancel(known: &Known, text: &[u8]) -> Result<Input, Fault>
+    ensures { Gives result (made_of input.Cancel (txn_of known.now) text.now) }
+{
+    let txn = known.txn(text)?;
+    Ok(Input::Cancel { txn })
+}
+
+fn expire(known: &Known, text: &[u8]) -> Result<Input, Fault>
+    ensures { Gives result (made_of input.Expire (txn_of known.now) text.now) }
+{
+    let txn = known.txn(text)?;
+    Ok(Input::Expire { txn })
+}
+
 fn elect(alloc: Global, known: &Known, text: &[u8]) -> Result<Input, Fault>
     ensures { Gives result (made_of elect_from (pair_of space (txn_of known.now) sites_of) text.now) }
 {
@@ -24,7 +60,15 @@ fn elect(alloc: Global, known: &Known, text: &[u8]) -> Result<Input, Fault>
     Ok(Input::Elect { txn, group })
 }
 
-#[tactic(auto, unfolding(crate::specs::Inputs::input_by, crate::specs::Fields::txn_of, crate::specs::Fields::named, crate::specs::Fields::sent_of, crate::specs::Fields::packet_at))]
+#[tactic(auto, unfolding(crate::specs::Fields::sent_of, crate::specs::Fields::packet_at))]
+fn deliver(_known: &Known, past: &Past, text: &[u8]) -> Result<Input, Fault>
+    ensures { Gives result (made_of input.Deliver (sent_of (knowing _known.now (sent past.now))) text.now) }
+{
+    let packet = past.packet(text)?;
+    Ok(Input::Deliver { packet })
+}
+
+#[tactic(auto, unfolding(crate::specs::Inputs::input_by, crate::specs::Fields::txn_of, crate::specs::Fields::named))]
 fn input_by(
     alloc: Global,
     known: &Known,
@@ -35,25 +79,19 @@ fn input_by(
     ensures { Gives result (input_by (knowing known.now (sent past.now)) verb.now text.now) }
 {
     if is_text(verb, "begin") {
-        let sites = sites(alloc, text)?;
-        Ok(Input::Begin { sites })
+        begin(alloc, text)
     } else if is_text(verb, "do") {
-        let (txn, op) = known.txn_and::<Op>(text)?;
-        Ok(Input::Do { txn, op })
+        call(known, text)
     } else if is_text(verb, "commit") {
-        let txn = known.txn(text)?;
-        Ok(Input::Commit { txn })
+        commit(known, text)
     } else if is_text(verb, "cancel") {
-        let txn = known.txn(text)?;
-        Ok(Input::Cancel { txn })
+        cancel(known, text)
     } else if is_text(verb, "expire") {
-        let txn = known.txn(text)?;
-        Ok(Input::Expire { txn })
+        expire(known, text)
     } else if is_text(verb, "elect") {
         elect(alloc, known, text)
     } else if is_text(verb, "deliver") {
-        let packet = past.packet(text)?;
-        Ok(Input::Deliver { packet })
+        deliver(known, past, text)
     } else {
         Err(Fault::Bad)
     }

@@ -17,29 +17,34 @@ fn push_legal(alloc: Global, line: &mut Page, scenario: &Scenario, history: &His
     }
 }
 
-// What the plain judge finds in a history.
-fn line_of(alloc: Global, scenario: &Scenario, history: &History) -> Page {
-    let mut line = Page::new(alloc);
+// Adds what the plain judge finds in a history.
+fn push_found(alloc: Global, line: &mut Page, scenario: &Scenario, history: &History) {
     match judge(alloc, scenario, history) {
         Ok(Some(breach)) => {
             line.labelled("illegal ", breach.at);
             line.text(" ");
             line.text(breach.guard.word());
         }
-        Ok(None) => push_legal(alloc, &mut line, scenario, history),
+        Ok(None) => push_legal(alloc, line, scenario, history),
         Err(NoMemory) => line.lack(),
     }
     line.text("\n");
-    line
 }
 
-/// The line that tells what the plain judge finds; none where there is no scenario, or no trace.
-pub fn plain_line(alloc: Global, text: &[u8]) -> Option<Page> {
-    let Ok(scenario) = read_scenario(alloc, before_mark(text)) else {
-        return None;
-    };
-    match read_trace(alloc, &scenario, text) {
-        Ok(history) => Some(line_of(alloc, &scenario, &history)),
-        Err(_) => None,
+// Adds what the plain judge finds in the trace of a text, if it has one.
+fn push_traced(alloc: Global, line: &mut Page, scenario: &Scenario, text: &[u8]) {
+    if let Ok(history) = read_trace(alloc, scenario, text) {
+        push_found(alloc, line, scenario, &history);
+        drop(history);
     }
+}
+
+/// The line that tells what the plain judge finds; an empty one where there is no scenario, or no trace.
+pub fn plain_line(alloc: Global, text: &[u8]) -> Page {
+    let mut line = Page::new(alloc);
+    if let Ok(scenario) = read_scenario(alloc, before_mark(text)) {
+        push_traced(alloc, &mut line, &scenario, text);
+        drop(scenario);
+    }
+    line
 }

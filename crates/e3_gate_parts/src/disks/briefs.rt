@@ -9,56 +9,57 @@ use e3_site::{RebuildFault, Site, brief, brief_of_site, rebuild};
 use e3_types::{List, NoMemory, Record};
 use std::alloc::Global;
 
-// The records of these bodies, at site 1; none where a body is not records.
-fn records(alloc: Global, bodies: &[List<u8>]) -> Result<Option<List<Record>>, NoMemory> {
-    let mut out = List::new(alloc);
+// Adds the records of these bodies, at site 1; false where a body is not records.
+fn add_records(
+    alloc: Global,
+    out: &mut List<Record>,
+    bodies: &[List<u8>],
+) -> Result<bool, NoMemory> {
     for body in bodies {
-        let Ok(read) = read_records(alloc, 1, body.as_slice()) else {
-            return Ok(None);
-        };
-        for record in read.into_vec() {
-            out.push(record)?;
+        match read_records(alloc, 1, body.as_slice()) {
+            Ok(read) => out.add_copies(alloc, read.as_slice())?,
+            Err(_) => return Ok(false),
         }
     }
-    Ok(Some(out))
+    Ok(true)
 }
 
-// The bytes of the brief of records.
-fn short_of(alloc: Global, records: &[Record]) -> Result<List<u8>, NoMemory> {
-    put_records(alloc, brief(alloc, records)?.as_slice())
+// The bytes of a brief.
+fn bytes_of(alloc: Global, brief: Result<List<Record>, NoMemory>) -> Page {
+    let mut bytes = Page::new(alloc);
+    match brief {
+        Ok(records) => push_bytes(alloc, &mut bytes, records.as_slice()),
+        Err(NoMemory) => bytes.lack(),
+    }
+    bytes
 }
 
-// The bytes of the brief that a site tells by its tables.
-fn told_by(alloc: Global, site: &Site) -> Result<List<u8>, NoMemory> {
-    put_records(alloc, brief_of_site(alloc, site)?.as_slice())
+// Adds the bytes of records.
+fn push_bytes(alloc: Global, page: &mut Page, records: &[Record]) {
+    match put_records(alloc, records) {
+        Ok(bytes) => page.bytes(bytes.as_slice()),
+        Err(NoMemory) => page.lack(),
+    }
 }
 
 // Adds how the log was turned to the brief of these records, and the bytes of the brief.
 fn push_turned(alloc: Global, page: &mut Page, log: &mut Log<MemDisk>, records: &[Record]) {
-    match short_of(alloc, records) {
-        Ok(short) => {
-            push_turn(page, turn(log, short.as_slice()));
-            page.text(" ");
-            page.hex(short.as_slice());
-        }
-        Err(NoMemory) => page.lack(),
+    let short = bytes_of(alloc, brief(alloc, records));
+    if !short.is_whole() {
+        page.lack();
     }
-}
-
-/// Adds how the log was turned to the brief of what it holds, and the bytes of the brief.
-pub fn push_brief(alloc: Global, page: &mut Page, log: &mut Log<MemDisk>, bodies: &[List<u8>]) {
-    match records(alloc, bodies) {
-        Ok(Some(records)) => push_turned(alloc, page, log, records.as_slice()),
-        Ok(None) => page.text("no records"),
-        Err(NoMemory) => page.lack(),
-    }
+    push_turn(page, turn(log, short.as_slice()));
+    page.text(" ");
+    page.hex(short.as_slice());
 }
 
 // Adds whether a site that rose with these records, as its tables have them, tells their brief, or the one that it told.
-fn push_told(alloc: Global, page: &mut Page, site: &Site, records: &[Record]) {
-    let (Ok(told), Ok(short)) = (told_by(alloc, site), short_of(alloc, records)) else {
-        return page.lack();
-    };
+fn push_own(alloc: Global, page: &mut Page, site: &Site, records: &[Record]) {
+    let told = bytes_of(alloc, brief_of_site(alloc, site));
+    let short = bytes_of(alloc, brief(alloc, records));
+    if !told.is_whole() || !short.is_whole() {
+        page.lack();
+    }
     if told.as_slice() == short.as_slice() {
         page.text("as its brief");
     } else {
@@ -72,17 +73,29 @@ fn push_risen(alloc: Global, page: &mut Page, records: &[Record]) {
         return page.text("no records");
     }
     match rebuild(alloc, 1, records) {
-        Ok(site) => push_told(alloc, page, &site, records),
+        Ok(site) => {
+            push_own(alloc, page, &site, records);
+            drop(site);
+        }
         Err(RebuildFault::Order { at }) => page.labelled("out of order at ", at),
         Err(RebuildFault::NoMemory) => page.lack(),
     }
 }
 
-/// Adds whether a site that rises with the records of these bodies tells their brief.
-pub fn push_site(alloc: Global, page: &mut Page, bodies: &[List<u8>]) {
-    match records(alloc, bodies) {
-        Ok(Some(records)) => push_risen(alloc, page, records.as_slice()),
-        Ok(None) => page.text("no records"),
+/// Turns the log to the brief of what it holds, and adds how that ended, and the bytes of the brief; or adds of a site that rises
+/// with the records of the log whether it tells their brief.
+pub fn push_told(
+    alloc: Global,
+    page: &mut Page,
+    log: &mut Log<MemDisk>,
+    bodies: &[List<u8>],
+    is_of_site: bool,
+) {
+    let mut records = List::new(alloc);
+    match add_records(alloc, &mut records, bodies) {
+        Ok(true) if is_of_site => push_risen(alloc, page, records.as_slice()),
+        Ok(true) => push_turned(alloc, page, log, records.as_slice()),
+        Ok(false) => page.text("no records"),
         Err(NoMemory) => page.lack(),
     }
 }

@@ -79,13 +79,14 @@ fn push_three<D: Disk>(alloc: Global, page: &mut Page, disk: &mut D) {
     }
 }
 
-// Does with a disk what always succeeds: gives it power, takes it, or arms it; or leaves it as it is.
+// Does with a disk what always succeeds: gives it power, takes it, or arms it; or leaves it as it is. Adds that it did.
 fn set<D: Drill>(page: &mut Page, disk: &mut D, word: &Word) {
     match word.letter {
         b'p' => disk.power_on(),
         b'd' => disk.power_cut(),
         b'a' => disk.arm(small(word.first).max(1), leave_of(word.second)),
-        _ => {}
+        b'l' => {}
+        _ => return page.text("no word"),
     }
     page.text("ok");
 }

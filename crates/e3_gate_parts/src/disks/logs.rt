@@ -1,6 +1,6 @@
 // What is done with a log over a disk.
 use crate::answers::{push_append, push_cause, push_frames, push_turn};
-use crate::disks::briefs::{push_brief, push_site};
+use crate::disks::briefs::push_told;
 use crate::disks::calls::leave_of;
 use crate::disks::{Held, Word};
 use crate::texts::{bytes_of, letter_of, number, small};
@@ -89,15 +89,15 @@ fn act<D: Drill>(page: &mut Page, log: &mut Log<D>, word: &Word) {
     match word.letter {
         b'c' => push_append(page, log.clear()),
         b't' => push_turn(page, turn(log, word.bytes)),
-        b'f' => page.text(if log.fits(number(word.first)) {
-            "yes"
-        } else {
-            "no"
-        }),
-        _ => {
+        b'f' => {
+            let fits = log.fits(number(word.first));
+            page.text(if fits { "yes" } else { "no" });
+        }
+        b'a' => {
             log.arm(small(word.first).max(1), leave_of(word.second));
             page.text("ok");
         }
+        _ => page.text("no word"),
     }
 }
 
@@ -130,8 +130,7 @@ pub fn act_on_log(
     word: &Word,
 ) {
     match word.letter {
-        b'b' => push_brief(alloc, page, log, bodies.as_slice()),
-        b's' => push_site(alloc, page, bodies.as_slice()),
+        b'b' | b's' => push_told(alloc, page, log, bodies.as_slice(), word.letter == b's'),
         b'a' if word.second.is_empty() => add(alloc, page, log, bodies, word.bytes),
         _ => act(page, log, word),
     }

@@ -2,7 +2,7 @@
 // feed.
 use crate::texts::{cut, number};
 use e3_report::Page;
-use e3_scenario::{fault_line, read_scenario};
+use e3_scenario::{ScenarioFault, fault_line, read_scenario};
 use e3_types::{NoMemory, Scenario};
 use std::alloc::Global;
 
@@ -15,18 +15,26 @@ pub fn text_of(alloc: Global, line: &[u8]) -> Page {
     text
 }
 
+// Adds the line of a fault.
+fn push_fault_line(alloc: Global, page: &mut Page, fault: &ScenarioFault) {
+    match fault_line(alloc, fault) {
+        Ok(line) => page.bytes(line.as_slice()),
+        Err(NoMemory) => page.lack(),
+    }
+}
+
 // Adds `valid`, or the line of the fault that a text has.
 fn push_fault(alloc: Global, page: &mut Page, text: &Page) {
     if !text.is_whole() {
         page.lack();
     }
     page.text(": ");
-    let Err(fault) = read_scenario(alloc, text.as_slice()) else {
-        return page.text("valid\n");
-    };
-    match fault_line(alloc, &fault) {
-        Ok(line) => page.bytes(line.as_slice()),
-        Err(NoMemory) => page.lack(),
+    match read_scenario(alloc, text.as_slice()) {
+        Ok(scenario) => {
+            drop(scenario);
+            page.text("valid\n");
+        }
+        Err(fault) => push_fault_line(alloc, page, &fault),
     }
 }
 
@@ -97,9 +105,11 @@ fn count_refused(alloc: Global, text: &[u8]) -> u64 {
     let mut refused = 0u64;
     for length in 0..text.len() {
         let front = text.get(..length).unwrap_or(text);
-        if read_scenario(alloc, front).is_err() {
+        let read = read_scenario(alloc, front);
+        if read.is_err() {
             refused = refused.saturating_add(1);
         }
+        drop(read);
     }
     refused
 }
@@ -113,8 +123,8 @@ pub fn push_fronts(alloc: Global, page: &mut Page, line: &[u8]) {
     push_fault(alloc, page, &text);
 }
 
-// Adds the weights and the rows of a scenario.
-fn push_head(page: &mut Page, scenario: &Scenario) {
+/// Adds the parts of a scenario but its steps: its weights, its rows and its chances.
+pub fn push_head(page: &mut Page, scenario: &Scenario) {
     for weight in scenario.weights.as_slice() {
         page.labelled("weight ", u64::from(*weight));
         page.text("\n");
@@ -126,15 +136,15 @@ fn push_head(page: &mut Page, scenario: &Scenario) {
         page.bytes(row.val.bytes());
         page.text("\n");
     }
+    page.labelled("loss ", u64::from(scenario.loss));
+    page.labelled(", repeat ", u64::from(scenario.repeat));
+    page.labelled(", luck ", scenario.luck);
+    page.text("\n");
 }
 
 // Adds the parts of a scenario.
 fn push_read(page: &mut Page, scenario: &Scenario) {
     push_head(page, scenario);
-    page.labelled("loss ", u64::from(scenario.loss));
-    page.labelled(", repeat ", u64::from(scenario.repeat));
-    page.labelled(", luck ", scenario.luck);
-    page.text("\n");
     for items in scenario.steps.as_slice() {
         page.items(items.as_slice());
     }
@@ -143,7 +153,10 @@ fn push_read(page: &mut Page, scenario: &Scenario) {
 /// Adds the parts of the scenario that a text spells.
 pub fn push_parts(alloc: Global, page: &mut Page, line: &[u8]) {
     match read_scenario(alloc, text_of(alloc, line).as_slice()) {
-        Ok(scenario) => push_read(page, &scenario),
+        Ok(scenario) => {
+            push_read(page, &scenario);
+            drop(scenario);
+        }
         Err(_) => page.text("refused\n"),
     }
 }

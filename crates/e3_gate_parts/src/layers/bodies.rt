@@ -49,7 +49,7 @@ fn push_bad(alloc: Global, page: &mut Page, bytes: &[u8]) {
     }
 }
 
-// Adds where the bytes are bad with this one in place of that at this place.
+// Adds where the bytes are bad with this one in place of that at this place; the cases change tags, sites, names and lengths.
 fn push_changed(alloc: Global, page: &mut Page, bytes: &[u8], place: u64, byte: u8) {
     let mut changed = Page::new(alloc);
     let mut at = 0u64;
@@ -63,7 +63,7 @@ fn push_changed(alloc: Global, page: &mut Page, bytes: &[u8], place: u64, byte: 
     push_bad(alloc, page, changed.as_slice());
 }
 
-// Adds where the body is bad when it is cut behind each of its bytes, and none.
+// Adds where the body is bad when it is cut behind each of its bytes, and none: it is records only where one of them ends.
 fn push_cuts(alloc: Global, page: &mut Page, body: &[u8]) {
     page.text("cut:");
     for length in 0..=body.len() {
@@ -72,7 +72,7 @@ fn push_cuts(alloc: Global, page: &mut Page, body: &[u8]) {
     page.text("\n");
 }
 
-// Adds where the body is bad when one of its bytes is greater by one.
+// Adds where the body is bad when one of its bytes is greater by one: where that is a byte of a number or a value, the body may be other records.
 fn push_changes(alloc: Global, page: &mut Page, body: &[u8]) {
     page.text("changed:");
     let mut place = 0u64;
@@ -114,8 +114,6 @@ fn push_answer(alloc: Global, page: &mut Page, body: &[u8], asked: &[u8]) {
 /// Adds what is asked of the body that digits spell: `read`, `cut`, `greater`, `byte PLACE VALUE`, or `name` and more words,
 /// which are its name.
 pub fn push_asked(alloc: Global, page: &mut Page, digits: &[u8], asked: &[u8]) {
-    match spelled_by(alloc, digits) {
-        Ok(body) => push_answer(alloc, page, body.as_slice(), asked),
-        Err(NoMemory) => page.lack(),
-    }
+    let body = spelled_by(alloc, page, digits);
+    push_answer(alloc, page, body.as_slice(), asked);
 }

@@ -33,7 +33,7 @@ fn push_sent(page: &mut Page, net: &mut Net, from: u32, to: u32) {
     }
 }
 
-// Sends 200 packets of site 1 to site 2.
+// Sends 200 packets of site 1 to site 2: the fate of each is lost, once or twice.
 fn push_many(page: &mut Page, net: &mut Net) {
     for _ in 0..200u32 {
         if send(net, 1, 2).is_none() {
@@ -74,7 +74,7 @@ fn push_first(page: &mut Page, net: &Net) {
     }
 }
 
-// Divides the network in two parts, sites 1 and 2, and site 3, and calms it.
+// Divides the network in two parts, sites 1 and 2, and site 3, and calms it: what crosses the parts is lost all the same.
 fn divide(alloc: Global, page: &mut Page, net: &mut Net) {
     let mut parts = List::new(alloc);
     if parts
@@ -88,17 +88,20 @@ fn divide(alloc: Global, page: &mut Page, net: &mut Net) {
 }
 
 // Two packets for site 2 and one between them for site 3, which are not sent yet.
-fn three_packets(alloc: Global) -> Result<List<Packet>, NoMemory> {
+fn three_packets(alloc: Global, page: &mut Page) -> List<Packet> {
     let mut outs = List::new(alloc);
     for to in [2, 3, 2] {
-        outs.push(Packet {
+        let packet = Packet {
             number: 0,
             from: 1,
             to,
             msg: vote(),
-        })?;
+        };
+        if outs.push(packet).is_err() {
+            page.lack();
+        }
     }
-    Ok(outs)
+    outs
 }
 
 // Sends packets, with room for three; as they were sent, or none without memory.
@@ -109,9 +112,10 @@ fn send_all(net: &mut Net, outs: List<Packet>) -> Option<List<Packet>> {
     Some(net.send_all(outs))
 }
 
-// Sends packets, and adds their numbers.
-fn push_all_sent(page: &mut Page, net: &mut Net, outs: List<Packet>) {
+// Sends three packets, and adds their numbers.
+fn push_three(alloc: Global, page: &mut Page, net: &mut Net) {
     page.text(", sent");
+    let outs = three_packets(alloc, page);
     match send_all(net, outs) {
         Some(sent) => {
             for packet in sent.as_slice() {
@@ -119,14 +123,6 @@ fn push_all_sent(page: &mut Page, net: &mut Net, outs: List<Packet>) {
             }
         }
         None => page.lack(),
-    }
-}
-
-// Sends three packets, and adds their numbers.
-fn push_three(alloc: Global, page: &mut Page, net: &mut Net) {
-    match three_packets(alloc) {
-        Ok(outs) => push_all_sent(page, net, outs),
-        Err(NoMemory) => page.lack(),
     }
 }
 
@@ -162,7 +158,10 @@ fn push_all(alloc: Global, page: &mut Page, net: &mut Net, pieces: &[&[u8]]) {
 pub fn push_pieces(alloc: Global, page: &mut Page, loss: u32, repeat: u32, pieces: &[&[u8]]) {
     let loss = loss.min(100);
     match Net::new(alloc, 3, 17, loss, repeat.min(100 - loss)) {
-        Ok(mut net) => push_all(alloc, page, &mut net, pieces),
+        Ok(mut net) => {
+            push_all(alloc, page, &mut net, pieces);
+            drop(net);
+        }
         Err(NoMemory) => page.lack(),
     }
 }

@@ -2,7 +2,8 @@
 // leaves that fails or is stopped, and why a log is not opened.
 //
 // A line of the input is `disk CAPACITY CALL`, of which the call of this number fails, or none for 0, and pieces: a word says
-// what is done, and what came of it is printed; that of a word behind a dash is not.
+// what is done, and what came of it is printed; that of a word behind a dash is not. A log that is opened over bytes which were
+// written tells where they are no frames.
 use crate::disks::{Held, blank, did};
 use crate::texts::push_text;
 use e3_report::Page;
@@ -35,4 +36,5 @@ pub fn push_pieces(alloc: Global, page: &mut Page, capacity: u64, call: u64, pie
         }
     }
     page.text("\n");
+    drop(held);
 }

@@ -1,5 +1,5 @@
 // Streams in memory and over readers and writers of std: what a call takes, what fails, and when it is made again.
-use crate::texts::{bytes_of, push_hex};
+use crate::texts::{bytes_of, only, push_hex};
 use e3_outside::{
     Failed, MemSink, MemSource, ReadFault, Sink, Source, StdSink, StdSource, read_up_to, write_all,
 };
@@ -8,17 +8,10 @@ use e3_types::{List, NoMemory};
 use std::alloc::Global;
 use std::io::{self, ErrorKind, Read, Write};
 
-// A list of the number of the call that fails.
-fn fails_at(alloc: Global, call: u64) -> Result<List<u64>, NoMemory> {
-    let mut calls = List::new(alloc);
-    calls.push(call)?;
-    Ok(calls)
-}
-
 // A source of three letters, two for a read, whose call of this number fails.
 fn source_of(alloc: Global, fails: u64) -> Result<MemSource, NoMemory> {
-    let text = bytes_of(alloc, b"abc")?;
-    Ok(MemSource::new(text, 2, fails_at(alloc, fails)?))
+    let fails = only(alloc, fails)?;
+    Ok(MemSource::new(bytes_of(alloc, b"abc")?, 2, fails))
 }
 
 // Adds what one read gives.
@@ -74,35 +67,44 @@ fn push_taken(page: &mut Page, sink: &mut MemSink, text: &[u8]) {
     push_hex(page, sink.written());
 }
 
+// Adds three reads of a source where no bound is told, and else what is read up to the bound.
+fn push_up_to(alloc: Global, page: &mut Page, source: &mut MemSource, most: u64) {
+    match most {
+        0 => push_reads(page, source),
+        _ => push_all(alloc, page, source, most),
+    }
+}
+
 /// Adds what is read of a source whose call of this number fails: three reads where no bound is told, and else up to the bound.
+/// Up to a bound the call that fails ends the reading, unless the bound or the end of the text comes before it.
 pub fn push_source(alloc: Global, page: &mut Page, fails: u64, most: u64) {
     match source_of(alloc, fails) {
         Ok(mut source) => {
-            if most == 0 {
-                push_reads(page, &mut source);
-            } else {
-                push_all(alloc, page, &mut source, most);
-            }
+            push_up_to(alloc, page, &mut source, most);
+            drop(source);
         }
         Err(NoMemory) => page.lack(),
     }
 }
 
-/// Adds what is read up to a bound of a reader of std.
+/// Adds what is read up to a bound of a reader of std, which ends before it.
 pub fn push_standard(alloc: Global, page: &mut Page, most: u64) {
     push_all(alloc, page, &mut StdSource::new(b"abc".as_slice()), most);
 }
 
 // A sink of this room, which takes ten bytes for a write, and whose call of this number fails.
 fn sink_of(alloc: Global, room: u64, fails: u64) -> Result<MemSink, NoMemory> {
-    MemSink::new(alloc, room, 10, fails_at(alloc, fails)?)
+    MemSink::new(alloc, room, 10, only(alloc, fails)?)
 }
 
 /// Adds what a sink of this room takes of a text, whose call of this number fails. 25 letters are written as ten, ten and five
 /// bytes: a fourth call is not made.
 pub fn push_sink(alloc: Global, page: &mut Page, room: u64, fails: u64, text: &[u8]) {
     match sink_of(alloc, room, fails) {
-        Ok(mut sink) => push_taken(page, &mut sink, text),
+        Ok(mut sink) => {
+            push_taken(page, &mut sink, text);
+            drop(sink);
+        }
         Err(NoMemory) => page.lack(),
     }
 }
@@ -153,7 +155,8 @@ impl Write for Halting {
     }
 }
 
-/// Adds two reads over a reader and two writes over a writer, whose first calls end so.
+/// Adds two reads over a reader and two writes over a writer, whose first calls end so. Calls that are interrupted are made again,
+/// a thousand times at most; any other error is a failure at once.
 pub fn push_halting(page: &mut Page, kind: ErrorKind, times: u32) {
     page.labelled("halts ", u64::from(times));
     let mut source = StdSource::new(Halting::new(kind, times));

@@ -12,28 +12,23 @@ use e3_types::{Act, Copied, Entry, List, Lock, Mode, Name, NoMemory, Record, Sit
 use e3_world::{History, fate_word};
 use std::alloc::Global;
 
-// Adds whether a word is one of its kind.
-fn push_is(alloc: Global, page: &mut Page, kind: u8, word: &[u8]) {
-    let (Ok(bytes), Ok(numbers)) = (spelled_by(alloc, word), numbers_of(alloc, word)) else {
-        return page.lack();
-    };
+// Whether a word is one of its kind.
+fn is_one(alloc: Global, page: &mut Page, kind: u8, word: &[u8]) -> bool {
     let (site, inc, seq) = triple(word);
-    push_flag(
-        page,
-        match kind {
-            b'n' => Name::new(bytes.as_slice()).is_some(),
-            b'v' => Val::new(bytes.as_slice()).is_some(),
-            b's' => SiteSet::of(numbers.as_slice()).is_some(),
-            _ => Txn::new(site, inc, seq, SiteSet::one(1).with(2)).is_some(),
-        },
-    );
+    match kind {
+        b'n' => Name::new(spelled_by(alloc, page, word).as_slice()).is_some(),
+        b'v' => Val::new(spelled_by(alloc, page, word).as_slice()).is_some(),
+        b's' => SiteSet::of(numbers_of(alloc, page, word).as_slice()).is_some(),
+        _ => Txn::new(site, inc, seq, SiteSet::one(1).with(2)).is_some(),
+    }
 }
 
 /// Adds which words of a line are of its kind.
 pub fn push_are(alloc: Global, page: &mut Page, kind: u8, pieces: &[&[u8]]) {
     for piece in pieces {
         if !push_text(page, piece) {
-            push_is(alloc, page, kind, piece);
+            let is_one = is_one(alloc, page, kind, piece);
+            push_flag(page, is_one);
         }
     }
     page.text("\n");
@@ -44,7 +39,7 @@ pub fn push_order(alloc: Global, page: &mut Page, is_above: bool, pieces: &[&[u8
     let mut before = SiteSet::empty();
     for piece in pieces {
         if !push_text(page, piece) {
-            let set = set_of(alloc, piece).unwrap_or(before);
+            let set = set_of(alloc, page, piece);
             push_flag(page, if is_above { before < set } else { set < before });
             before = set;
         }
@@ -117,12 +112,13 @@ fn push_list(alloc: Global, page: &mut Page) {
     push_copy(alloc, page);
 }
 
+// The request of the transaction that began as the n-th.
 fn lock(seq: u32, mode: Mode) -> Lock {
     let txn = txn_of(seq, SiteSet::one(1));
     Lock { txn, mode }
 }
 
-// Adds how many requests of one transaction are granted where none is held.
+// Adds how many of three requests come to the front where none is held: shared ones all, exclusive ones of one transaction.
 fn push_front(alloc: Global, page: &mut Page, mode: Mode) {
     let queue = [lock(1, mode), lock(1, mode), lock(2, mode)];
     push_count(page, "a front of ", front(alloc, &[], &queue));
@@ -142,6 +138,7 @@ fn three_lines(alloc: Global) -> Result<History, NoMemory> {
     Ok(history)
 }
 
+// The number of the driver's line at a place, if one is there.
 fn line_at(history: &History, at: u64) -> Option<u32> {
     match history.entry(at) {
         Some(

@@ -182,22 +182,23 @@ fn call_of(word: &[u8]) -> Option<LockCall> {
     Some(LockCall::Request { txn, name, mode })
 }
 
-fn calls_of(alloc: Global, words: &[u8]) -> Result<List<LockCall>, NoMemory> {
+fn calls_of(alloc: Global, page: &mut Page, words: &[u8]) -> List<LockCall> {
     let mut calls = List::new(alloc);
-    for word in &parts_of(alloc, words, b' ')? {
+    let words = parts_of(alloc, page, words, b' ');
+    for word in &words {
         if let Some(call) = call_of(word) {
-            calls.push(call)?;
+            if calls.push(call).is_err() {
+                page.lack();
+            }
         }
     }
-    Ok(calls)
+    calls
 }
 
 /// Adds the lines of a case.
 pub fn push_case(alloc: Global, page: &mut Page, label: &[u8], pieces: &[&[u8]]) {
     if let [leaver, calls] = pieces {
-        match calls_of(alloc, calls) {
-            Ok(calls) => push_both(alloc, page, label, calls.as_slice(), small(leaver)),
-            Err(NoMemory) => page.lack(),
-        }
+        let calls = calls_of(alloc, page, calls);
+        push_both(alloc, page, label, calls.as_slice(), small(leaver));
     }
 }

@@ -31,10 +31,8 @@ fn push_made(page: &mut Page, count: u64, made: Result<Weights, WeightFault>) {
 
 /// Adds what comes of weights.
 pub fn push_weights(alloc: Global, page: &mut Page, text: &[u8]) {
-    match numbers_of(alloc, text) {
-        Ok(weights) => push_made(page, weights.len(), Weights::new(alloc, weights.as_slice())),
-        Err(NoMemory) => page.lack(),
-    }
+    let weights = numbers_of(alloc, page, text);
+    push_made(page, weights.len(), Weights::new(alloc, weights.as_slice()));
 }
 
 fn set(sites: &[u32]) -> Option<SiteSet>
@@ -140,30 +138,32 @@ fn push_reported(page: &mut Page, election: &mut Election, pieces: &[&[u8]]) {
 // Adds what a copy of an election takes, which joined number 9, and what was reported to the election meanwhile.
 fn push_copied(alloc: Global, page: &mut Page, election: &mut Election) {
     election.joined_under(9, report(2, State::W, 0));
-    let Ok(mut copy) = election.copied(alloc) else {
-        return page.lack();
-    };
-    page.text("joined:");
-    push_known(page, copy.joined_number());
-    push_flag(page, copy.reported(9, report(3, State::Pc, 1)));
-    page.labelled("; reports ", copy.reports().len() as u64);
-    page.labelled(" and ", election.reports().len() as u64);
-    page.text("\n");
+    match election.copied(alloc) {
+        Ok(mut copy) => {
+            page.text("joined:");
+            push_known(page, copy.joined_number());
+            push_flag(page, copy.reported(9, report(3, State::Pc, 1)));
+            page.labelled("; reports ", copy.reports().len() as u64);
+            page.labelled(" and ", election.reports().len() as u64);
+            page.text("\n");
+            drop(copy);
+        }
+        Err(NoMemory) => page.lack(),
+    }
 }
 
-// An election of site 2 in this group, whose own number is 4.
-fn start(alloc: Global, group: &[u8]) -> Result<Election, NoMemory> {
-    Election::start(alloc, CALL, set_of(alloc, group)?, 2, 4)
-}
-
-/// Adds what comes of an election of site 2 in this group, by the letter of the case.
+/// Adds what comes of an election of site 2 in this group, whose own number is 4, by the letter of the case.
 pub fn push_elected(alloc: Global, page: &mut Page, letter: u8, group: &[u8], pieces: &[&[u8]]) {
-    match start(alloc, group) {
-        Ok(mut election) => match letter {
-            b'h' => push_heard(page, &mut election, pieces),
-            b'r' => push_reported(page, &mut election, pieces),
-            _ => push_copied(alloc, page, &mut election),
-        },
+    let group = set_of(alloc, page, group);
+    match Election::start(alloc, CALL, group, 2, 4) {
+        Ok(mut election) => {
+            match letter {
+                b'h' => push_heard(page, &mut election, pieces),
+                b'r' => push_reported(page, &mut election, pieces),
+                _ => push_copied(alloc, page, &mut election),
+            }
+            drop(election);
+        }
         Err(NoMemory) => page.lack(),
     }
 }

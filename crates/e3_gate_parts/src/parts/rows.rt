@@ -9,7 +9,7 @@ ghost use Rattle.std.specs.List.{list_all};
 use crate::texts::{cut, letter_of, parts_of, push_text, small, txn_of};
 use e3_report::Page;
 use e3_tables::{Tables, Workspace};
-use e3_types::{Key, List, Name, NoMemory, NumOp, Op, Row, SiteSet, Val};
+use e3_types::{Key, List, Name, NumOp, Op, Row, SiteSet, Val};
 use std::alloc::Global;
 use std::mem;
 
@@ -53,15 +53,19 @@ fn note(page: &mut Page, work: &mut Workspace, n: u32, words: &[u8]) {
 }
 
 // The rows of a text, with commas between them; out of order, and a name may come twice among them.
-fn rows_of(alloc: Global, text: &[u8]) -> Result<List<Row>, NoMemory> {
+fn rows_of(alloc: Global, page: &mut Page, text: &[u8]) -> List<Row> {
     let mut rows = List::new(alloc);
-    for word in parts_of(alloc, text, b',')?.iter() {
+    let words = parts_of(alloc, page, text, b',');
+    for word in &words {
         let (name, val) = cut(word, b':');
         if let (Some(name), Some(val)) = (Name::new(name), Val::new(val)) {
-            rows.push(Row { name, val })?;
+            let row = Row { name, val };
+            if rows.push(row).is_err() {
+                page.lack();
+            }
         }
     }
-    Ok(rows)
+    rows
 }
 
 // Adds the value of a name in the table.
@@ -146,14 +150,7 @@ fn push_all(
 
 /// Adds what comes of these pieces on a table that is born with these rows.
 pub fn push_pieces(alloc: Global, page: &mut Page, born: &[u8], pieces: &[&[u8]]) {
-    match rows_of(alloc, born) {
-        Ok(rows) => push_all(
-            alloc,
-            page,
-            &mut Tables::new(rows),
-            &mut work_of(alloc, 1),
-            pieces,
-        ),
-        Err(NoMemory) => page.lack(),
-    }
+    let mut tables = Tables::new(rows_of(alloc, page, born));
+    let mut work = work_of(alloc, 1);
+    push_all(alloc, page, &mut tables, &mut work, pieces);
 }

@@ -6,7 +6,7 @@
 use crate::texts::{cut, number, small, state_of, txn_of};
 use e3_report::Page;
 use e3_rule::{decide, verdict_of};
-use e3_types::{List, NoMemory, SiteReport, SiteSet, State, Told, Verdict};
+use e3_types::{List, SiteReport, SiteSet, State, Told, Verdict};
 use std::alloc::Global;
 
 /// What a site of this number reports.
@@ -19,14 +19,17 @@ pub fn report(site: u32, state: State, attempt: u32) -> SiteReport {
 }
 
 // The reports of these pieces.
-fn reports_of(alloc: Global, pieces: &[&[u8]]) -> Result<List<SiteReport>, NoMemory> {
+fn reports_of(alloc: Global, page: &mut Page, pieces: &[&[u8]]) -> List<SiteReport> {
     let mut reports = List::new(alloc);
     for piece in pieces {
         let (site, rest) = cut(piece, b':');
         let (state, attempt) = cut(rest, b':');
-        reports.push(report(small(site), state_of(state), small(attempt)))?;
+        let told = report(small(site), state_of(state), small(attempt));
+        if reports.push(told).is_err() {
+            page.lack();
+        }
     }
-    Ok(reports)
+    reports
 }
 
 // The sites of the transaction that is judged.
@@ -58,8 +61,6 @@ fn push_over(page: &mut Page, letter: u8, words: &[u8], reports: &[SiteReport]) 
 /// Adds the verdict of a case over reports: by its letter what an elector concludes where sites of one weight report so, behind
 /// what the case shows, or the verdict by the rule, where they weigh so much.
 pub fn push_judged(alloc: Global, page: &mut Page, letter: u8, words: &[u8], pieces: &[&[u8]]) {
-    match reports_of(alloc, pieces) {
-        Ok(reports) => push_over(page, letter, words, reports.as_slice()),
-        Err(NoMemory) => page.lack(),
-    }
+    let reports = reports_of(alloc, page, pieces);
+    push_over(page, letter, words, reports.as_slice());
 }

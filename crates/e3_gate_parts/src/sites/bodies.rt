@@ -24,6 +24,12 @@ fn push_both(page: &mut Page, by_tables: &Page, by_past: &Page) {
     }
 }
 
+// Adds the lines of an entry.
+fn push_entry(lines: &mut Page, entry: Entry) {
+    lines.trace(slice::from_ref(&entry));
+    drop(entry);
+}
+
 // The lines of the step that the definitions make of an input.
 fn lines_by_past(
     alloc: Global,
@@ -44,7 +50,7 @@ fn lines_by_past(
                 outs: made.outs,
                 told: made.told,
             };
-            lines.trace(slice::from_ref(&Entry { owner, act }));
+            push_entry(&mut lines, Entry { owner, act });
         }
         Err(NoMemory) => lines.lack(),
     }
@@ -55,7 +61,7 @@ fn lines_by_past(
 fn lines_of(alloc: Global, plan: &Plan, owner: u32, input: &Input) -> Page {
     let mut lines = Page::new(alloc);
     match plan.entry(owner, input) {
-        Ok(entry) => lines.trace(slice::from_ref(&entry)),
+        Ok(entry) => push_entry(&mut lines, entry),
         Err(NoMemory) => lines.lack(),
     }
     lines
@@ -99,10 +105,13 @@ fn open_by_past(
     since: &[SiteStep],
 ) -> Result<List<Txn>, NoMemory> {
     let life = life_of(alloc, rose, since)?;
-    if life.steps.len() > 4294967295 {
-        return Err(NoMemory);
-    }
-    open_in(alloc, site, &life)
+    let open = if life.steps.len() > 4294967295 {
+        Err(NoMemory)
+    } else {
+        open_in(alloc, site, &life)
+    };
+    drop(life);
+    open
 }
 
 // Adds the transactions that are open at a site by its tables, and those that are by its past, where they are others.
@@ -203,6 +212,7 @@ fn push_risen(
             if push_steps(alloc, page, weights, &mut site, log, history).is_err() {
                 page.lack();
             }
+            drop(site);
         }
         Err(RebuildFault::Order { .. }) => page.text(" out of order"),
         Err(RebuildFault::NoMemory) => page.lack(),

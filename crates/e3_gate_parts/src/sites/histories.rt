@@ -21,7 +21,10 @@ fn push_unnumbered(page: &mut Page, input: &Input) {
 // Adds the entry that the definitions make of an input behind a history.
 fn push_made(page: &mut Page, before: &Prefix<'_>, owner: u32, input: &Input) {
     match before.entry_of(owner, input) {
-        Ok(entry) => page.trace(slice::from_ref(&entry)),
+        Ok(entry) => {
+            page.trace(slice::from_ref(&entry));
+            drop(entry);
+        }
         Err(NoMemory) => page.lack(),
     }
 }
@@ -65,7 +68,10 @@ fn push_taken(page: &mut Page, prefix: &Prefix<'_>, site: u32) {
         Err(NoMemory) => page.lack(),
     }
     match prefix.incarnation_at(site) {
-        Ok(now) => page.labelled(", steps ", now.since.len()),
+        Ok(now) => {
+            page.labelled(", steps ", now.since.len());
+            drop(now);
+        }
         Err(NoMemory) => page.lack(),
     }
 }
@@ -101,10 +107,12 @@ fn rows_twice(alloc: Global, scenario: &Scenario) -> Result<List<KeyRow>, NoMemo
     let mut rows = scenario.rows.copied(alloc)?;
     if let Some(last) = scenario.rows.as_slice().last() {
         for row in scenario.rows.as_slice() {
-            rows.push(KeyRow {
-                key: row.key.copy(),
+            let key = row.key.copy();
+            let again = KeyRow {
+                key,
                 val: last.val.copy(),
-            })?;
+            };
+            rows.push(again)?;
         }
     }
     Ok(rows)

@@ -31,6 +31,7 @@ fn rebuilt(alloc: Global, page: &mut Page, site: u32, log: &[Record]) -> Option<
             page.labelled(", incarnation ", u64::from(site.inc()));
             page.labelled(", inputs ", u64::from(site.inputs()));
             push_count(page, ", open ", site.open_txns());
+            drop(site);
             None
         }
         Err(RebuildFault::Order { at }) => Some(at),

@@ -189,6 +189,22 @@ fn push_read(
     }
 }
 
+// Adds the same of a life of few steps.
+fn push_few(
+    alloc: Global,
+    page: &mut Page,
+    site: u32,
+    life: &Life,
+    log: &[Record],
+    history: &[Entry],
+) {
+    if life.steps.len() < 4294967295 {
+        push_read(alloc, page, site, life, log, history);
+    } else {
+        page.lack();
+    }
+}
+
 // Adds what is read off an incarnation.
 fn push_incarnation(
     alloc: Global,
@@ -205,17 +221,21 @@ fn push_incarnation(
     page.labelled(" of incarnation ", u64::from(logged_inc(log.as_slice())));
     page.text(",");
     match life_of(alloc, rose, since) {
-        Ok(life) if life.steps.len() < 4294967295 => {
-            push_read(alloc, page, site, &life, log.as_slice(), history);
+        Ok(life) => {
+            push_few(alloc, page, site, &life, log.as_slice(), history);
+            drop(life);
         }
-        _ => page.lack(),
+        Err(NoMemory) => page.lack(),
     }
 }
 
 /// Adds what is read off the present incarnation of a site.
 pub fn push_readings(alloc: Global, page: &mut Page, all: &Prefix<'_>, site: u32) {
     match all.incarnation_at(site) {
-        Ok(now) => push_incarnation(alloc, page, &now, all.entries, site),
+        Ok(now) => {
+            push_incarnation(alloc, page, &now, all.entries, site);
+            drop(now);
+        }
         Err(NoMemory) => page.lack(),
     }
 }

@@ -1,7 +1,7 @@
 // The lines of an entry of a history, as a trace has them.
 ghost use Rattle.std.specs.Prelude.{◌≡◌, ◌++◌, OnOk};
 ghost use Rattle.std.specs.List.{flat_map};
-ghost use Rattle.e3_report.specs.lines.Entries.{fall_form, rise_form, failed_rise_form, form_text, marked_record, packet_line, lines_behind, entry_trace, trace_of};
+ghost use Rattle.e3_report.specs.lines.Entries.{fall_form, rise_form, failed_rise_form, step_form, form_text, marked_record, packet_line, lines_behind, entry_trace, trace_of};
 ghost use Rattle.e3_report.specs.lines.Events.{told_text};
 ghost use Rattle.e3_report.specs.lines.Inputs.{input_text};
 
@@ -9,8 +9,8 @@ use crate::lines::inputs::push_input;
 use crate::lines::listed::{Lines, Marked, push_each, push_marked_lines};
 use crate::lines::messages::push_message;
 use crate::lines::{
-    push_kept, push_labelled, push_line_end, push_number, push_parts, push_records, push_text,
-    push_told_text, push_why,
+    push_kept, push_labelled, push_line_end, push_number, push_records, push_text, push_told_text,
+    push_word_and_parts, push_word_and_why,
 };
 use e3_types::{Act, Entry, Input, List, NoMemory, Packet, Record, Told, Why};
 
@@ -18,8 +18,7 @@ use e3_types::{Act, Entry, Input, List, NoMemory, Packet, Record, Told, Why};
 fn push_fall_form(out: &mut List<u8>, why: Why, count: u64) -> Result<(), NoMemory>
     ensures { OnOk result (out.new ≡ out.old ++ fall_form why count) }
 {
-    push_text(out, "fall ")?;
-    push_why(out, why)?;
+    push_word_and_why(out, "fall ", why)?;
     push_labelled(out, " ", count)
 }
 
@@ -36,30 +35,31 @@ fn push_failed_rise_form(out: &mut List<u8>, inc: u32, why: Why, kept: bool) -> 
     ensures { OnOk result (out.new ≡ out.old ++ failed_rise_form inc why kept) }
 {
     push_labelled(out, "risefall ", inc as u64)?;
-    push_text(out, " ")?;
-    push_why(out, why)?;
+    push_word_and_why(out, " ", why)?;
     push_kept(out, kept)
 }
 
-#[tactic(auto, unfolding(crate::specs::lines::Entries::form_text, crate::specs::lines::Entries::step_form, crate::specs::lines::Entries::parts_form))]
+#[tactic(auto, unfolding(crate::specs::lines::Entries::step_form))]
+fn push_step_form(out: &mut List<u8>, input: &Input) -> Result<(), NoMemory>
+    ensures { OnOk result (out.new ≡ out.old ++ step_form input.now) }
+{
+    push_text(out, "step ")?;
+    push_input(out, input)
+}
+
+#[tactic(auto, unfolding(crate::specs::lines::Entries::form_text, crate::specs::lines::Entries::parts_form))]
 fn push_form(out: &mut List<u8>, act: &Act) -> Result<(), NoMemory>
     ensures { OnOk result (out.new ≡ out.old ++ form_text act.now) }
 {
     match act {
-        Act::Step { input, .. } => {
-            push_text(out, "step ")?;
-            push_input(out, input)
-        }
+        Act::Step { input, .. } => push_step_form(out, input),
         Act::Fall { inputs, why, .. } => push_fall_form(out, *why, inputs.len()),
         Act::Rise { kept, inc } => push_rise_form(out, *inc, *kept),
         Act::RiseFall { kept, inc, why } => push_failed_rise_form(out, *inc, *why, *kept),
         Act::Miss => push_text(out, "miss"),
         Act::Cut => push_text(out, "cut"),
         Act::Drop { packet } => push_labelled(out, "drop ", *packet),
-        Act::Parts { parts } => {
-            push_text(out, "parts ")?;
-            push_parts(out, parts.as_slice())
-        }
+        Act::Parts { parts } => push_word_and_parts(out, "parts ", parts.as_slice()),
         Act::Line { number } => push_labelled(out, "line ", *number as u64),
     }
 }

@@ -2,11 +2,12 @@
 ghost use Rattle.std.specs.Prelude.{◌≡◌, ◌++◌, OnOk, codes};
 ghost use Rattle.std.specs.Fmt.{decimal};
 ghost use Rattle.std.specs.List.{flat_map};
-ghost use Rattle.e3_report.specs.lines.Events.{answer_text, ended_text, doom_text, refusal_text, verdict_text, op_text, election_text, told_of, of_txn, told_text, told_line, why_text, at_site, rise_line, failure_text, failed_rise_line, fall_line, word_line, act_lines, entry_lines};
+ghost use Rattle.e3_report.specs.lines.Events.{answer_text, ended_text, doom_text, refusal_text, refused_text, verdict_text, op_text, election_text, told_of, of_txn, told_text, told_line, why_text, at_site, rise_line, failure_text, failed_rise_line, fall_line, word_line, act_lines, entry_lines};
 
 use crate::lines::texts::{
-    push_dir, push_kept, push_labelled, push_line, push_line_end, push_number, push_sites,
-    push_state, push_text, push_txn,
+    push_kept, push_labelled, push_line, push_line_end, push_number, push_text, push_txn,
+    push_word_and_bytes, push_word_and_dir, push_word_and_sites, push_word_and_state,
+    push_word_and_txn,
 };
 use e3_types::{Act, Answer, Dir, Entry, List, NoMemory, Refusal, Told, Txn, Verdict, Why};
 
@@ -18,10 +19,7 @@ pub(crate) fn push_answer(out: &mut List<u8>, answer: &Answer) -> Result<(), NoM
     match answer {
         Answer::Written => push_text(out, "written"),
         Answer::Absent => push_text(out, "absent"),
-        Answer::Value(val) => {
-            push_text(out, "value ")?;
-            out.extend(val.bytes())
-        }
+        Answer::Value(val) => push_word_and_bytes(out, "value ", val.bytes()),
     }
 }
 
@@ -50,18 +48,20 @@ fn push_refusal(out: &mut List<u8>, refusal: Refusal) -> Result<(), NoMemory>
 {
     match refusal {
         Refusal::NoTxn => push_text(out, "no-transaction"),
-        Refusal::Busy { op } => { push_labelled(out, "busy ", op as u64) }
-        Refusal::Over { dir } => {
-            push_text(out, "over ")?;
-            push_dir(out, dir)
-        }
-        Refusal::Died { older } => {
-            push_text(out, "died ")?;
-            push_txn(out, &older)
-        }
+        Refusal::Busy { op } => push_labelled(out, "busy ", op as u64),
+        Refusal::Over { dir } => push_word_and_dir(out, "over ", dir),
+        Refusal::Died { older } => push_word_and_txn(out, "died ", &older),
         Refusal::Doomed { site, had, now } => push_doom(out, site, had, now),
-        Refusal::TooLate { attempt } => { push_labelled(out, "too-late ", attempt as u64) }
+        Refusal::TooLate { attempt } => push_labelled(out, "too-late ", attempt as u64),
     }
+}
+
+#[tactic(auto, unfolding(crate::specs::lines::Events::refused_text))]
+fn push_refused(out: &mut List<u8>, refusal: Refusal) -> Result<(), NoMemory>
+    ensures { OnOk result (out.new ≡ out.old ++ refused_text refusal) }
+{
+    push_text(out, "refused ")?;
+    push_refusal(out, refusal)
 }
 
 // Adds a word, and how much there is of how much behind it.
@@ -103,30 +103,18 @@ fn push_election(out: &mut List<u8>, n: u32, verdict: Verdict) -> Result<(), NoM
     push_verdict(out, verdict)
 }
 
-#[tactic(auto, unfolding(crate::specs::lines::Events::told_of, crate::specs::lines::Events::began_text, crate::specs::lines::Events::died_text, crate::specs::lines::Events::refused_text, crate::specs::lines::Events::kept_state_text))]
+#[tactic(auto, unfolding(crate::specs::lines::Events::told_of, crate::specs::lines::Events::began_text, crate::specs::lines::Events::died_text, crate::specs::lines::Events::kept_state_text))]
 fn push_told_of(out: &mut List<u8>, told: &Told) -> Result<(), NoMemory>
     ensures { OnOk result (out.new ≡ out.old ++ told_of told.now) }
 {
     match told {
-        Told::Began { txn } => {
-            push_text(out, "began ")?;
-            push_sites(out, txn.sites)
-        }
+        Told::Began { txn } => push_word_and_sites(out, "began ", txn.sites),
         Told::Op { n, answer, .. } => push_op(out, *n, answer),
         Told::Ended { dir, .. } => push_ended(out, *dir),
-        Told::Died { older, .. } => {
-            push_text(out, "died for ")?;
-            push_txn(out, older)
-        }
+        Told::Died { older, .. } => push_word_and_txn(out, "died for ", older),
         Told::Doomed { site, had, now, .. } => push_doom(out, *site, *had, *now),
-        Told::Refused { refusal, .. } => {
-            push_text(out, "refused ")?;
-            push_refusal(out, *refusal)
-        }
-        Told::Kept { state, .. } => {
-            push_text(out, "kept ")?;
-            push_state(out, *state)
-        }
+        Told::Refused { refusal, .. } => push_refused(out, *refusal),
+        Told::Kept { state, .. } => push_word_and_state(out, "kept ", *state),
         Told::Verdict { n, verdict, .. } => push_election(out, *n, *verdict),
     }
 }
@@ -183,15 +171,22 @@ fn push_all_told(out: &mut List<u8>, site: u32, events: &[Told]) -> Result<(), N
     Ok(())
 }
 
-/// Adds why a site fell.
 #[tactic(auto, unfolding(crate::specs::lines::Events::why_text))]
-pub(crate) fn push_why(out: &mut List<u8>, why: Why) -> Result<(), NoMemory>
+fn push_why(out: &mut List<u8>, why: Why) -> Result<(), NoMemory>
     ensures { OnOk result (out.new ≡ out.old ++ why_text why) }
 {
     match why {
         Why::Fault => push_text(out, "fault"),
         Why::Full { need, room } => push_part_of_whole(out, "full ", need, room),
     }
+}
+
+/// Adds a word, and why a site fell behind it.
+pub(crate) fn push_word_and_why(out: &mut List<u8>, word: &str, why: Why) -> Result<(), NoMemory>
+    ensures { OnOk result (out.new ≡ out.old ++ (word.now ++ why_text why)) }
+{
+    push_text(out, word)?;
+    push_why(out, why)
 }
 
 #[tactic(auto, unfolding(crate::specs::lines::Events::rise_line))]
@@ -209,8 +204,7 @@ fn push_failure(out: &mut List<u8>, inc: u32, why: Why) -> Result<(), NoMemory>
     ensures { OnOk result (out.new ≡ out.old ++ failure_text inc why) }
 {
     push_labelled(out, "rise failed ", inc as u64)?;
-    push_text(out, " ")?;
-    push_why(out, why)?;
+    push_word_and_why(out, " ", why)?;
     Ok(())
 }
 
@@ -235,8 +229,7 @@ fn push_fall(out: &mut List<u8>, site: u32, why: Why) -> Result<(), NoMemory>
     ensures { OnOk result (out.new ≡ out.old ++ fall_line site why) }
 {
     push_at_site(out, site)?;
-    push_text(out, "fell ")?;
-    push_why(out, why)?;
+    push_word_and_why(out, "fell ", why)?;
     push_line_end(out)
 }
 

@@ -6,23 +6,18 @@ ghost use Rattle.e3_report.specs.lines.Texts.{key_text};
 ghost use Rattle.e3_report.specs.lines.Items.{begin_text, write_text, elect_text, stop_text, item_text, item_line};
 
 use crate::lines::listed::{Marked, push_marked_lines};
-use crate::lines::texts::{push_key, push_labelled, push_leave, push_parts, push_sites, push_text};
+use crate::lines::texts::{
+    push_labelled, push_leave, push_text, push_word_and_bytes, push_word_and_key,
+    push_word_and_parts, push_word_and_sites,
+};
 use e3_types::{Item, Key, Leave, List, NoMemory, SiteSet};
-
-fn push_word_and_name(out: &mut List<u8>, word: &str, name: &[u8]) -> Result<(), NoMemory>
-    ensures { OnOk result (out.new ≡ out.old ++ (word.now ++ name.now)) }
-{
-    push_text(out, word)?;
-    out.extend(name)
-}
 
 // Adds a word, and a name and a key behind it.
 fn push_name_and_key(out: &mut List<u8>, word: &str, name: &[u8], key: &Key) -> Result<(), NoMemory>
     ensures { OnOk result (out.new ≡ out.old ++ (word.now ++ name.now ++ codes " " ++ key_text key.now)) }
 {
-    push_word_and_name(out, word, name)?;
-    push_text(out, " ")?;
-    push_key(out, key)
+    push_word_and_bytes(out, word, name)?;
+    push_word_and_key(out, " ", key)
 }
 
 // Adds a word, and a site and a name behind it.
@@ -35,17 +30,16 @@ fn push_site_and_name(
     ensures { OnOk result (out.new ≡ out.old ++ (word.now ++ decimal site ++ codes " " ++ name.now)) }
 {
     push_labelled(out, word, site as u64)?;
-    push_word_and_name(out, " ", name)
+    push_word_and_bytes(out, " ", name)
 }
 
 #[tactic(auto, unfolding(crate::specs::lines::Items::begin_text))]
 fn push_begin(out: &mut List<u8>, name: &[u8], site: u32, sites: SiteSet) -> Result<(), NoMemory>
     ensures { OnOk result (out.new ≡ out.old ++ begin_text name.now site sites) }
 {
-    push_word_and_name(out, "begin ", name)?;
+    push_word_and_bytes(out, "begin ", name)?;
     push_labelled(out, " ", site as u64)?;
-    push_text(out, " ")?;
-    push_sites(out, sites)
+    push_word_and_sites(out, " ", sites)
 }
 
 #[tactic(auto, unfolding(crate::specs::lines::Items::write_text))]
@@ -53,8 +47,7 @@ fn push_write(out: &mut List<u8>, name: &[u8], key: &Key, val: &[u8]) -> Result<
     ensures { OnOk result (out.new ≡ out.old ++ write_text name.now key.now val.now) }
 {
     push_name_and_key(out, "write ", name, key)?;
-    push_text(out, " ")?;
-    out.extend(val)
+    push_word_and_bytes(out, " ", val)
 }
 
 #[tactic(auto, unfolding(crate::specs::lines::Items::elect_text))]
@@ -62,8 +55,7 @@ fn push_elect(out: &mut List<u8>, site: u32, name: &[u8], sites: SiteSet) -> Res
     ensures { OnOk result (out.new ≡ out.old ++ elect_text site name.now sites) }
 {
     push_site_and_name(out, "elect ", site, name)?;
-    push_text(out, " ")?;
-    push_sites(out, sites)
+    push_word_and_sites(out, " ", sites)
 }
 
 #[tactic(auto, unfolding(crate::specs::lines::Items::stop_text))]
@@ -85,18 +77,12 @@ pub fn push_item(out: &mut List<u8>, item: &Item) -> Result<(), NoMemory>
         Item::Begin { name, site, sites } => push_begin(out, name.bytes(), *site, *sites),
         Item::Read { name, key } => push_name_and_key(out, "read ", name.bytes(), key),
         Item::Write { name, key, val } => push_write(out, name.bytes(), key, val.bytes()),
-        Item::Commit { name } => push_word_and_name(out, "commit ", name.bytes()),
-        Item::Cancel { name } => push_word_and_name(out, "cancel ", name.bytes()),
+        Item::Commit { name } => push_word_and_bytes(out, "commit ", name.bytes()),
+        Item::Cancel { name } => push_word_and_bytes(out, "cancel ", name.bytes()),
         Item::Expire { site, name } => push_site_and_name(out, "expire ", *site, name.bytes()),
         Item::Elect { site, name, sites } => push_elect(out, *site, name.bytes(), *sites),
-        Item::Recover { sites } => {
-            push_text(out, "recover ")?;
-            push_sites(out, *sites)
-        }
-        Item::Split { parts } => {
-            push_text(out, "split ")?;
-            push_parts(out, parts.as_slice())
-        }
+        Item::Recover { sites } => push_word_and_sites(out, "recover ", *sites),
+        Item::Split { parts } => push_word_and_parts(out, "split ", parts.as_slice()),
         Item::Merge => push_text(out, "merge"),
         Item::Crash { site } => push_labelled(out, "crash ", *site as u64),
         Item::Restart { site } => push_labelled(out, "restart ", *site as u64),

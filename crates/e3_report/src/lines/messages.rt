@@ -3,8 +3,8 @@ ghost use Rattle.std.specs.Prelude.{◌≡◌, ◌++◌, OnOk};
 ghost use Rattle.e3_report.specs.lines.Messages.{txn_and_number, txn_and_call, txn_and_attempt, do_message, done_message, died_message, last_message, report_message, votereq_message, yes_text, vote_message, decide_message, message_text};
 
 use crate::lines::inputs::push_operation;
-use crate::lines::texts::push_word_and_txn;
-use crate::lines::{push_answer, push_dir, push_labelled, push_state, push_text, push_txn};
+use crate::lines::texts::{push_word_and_dir, push_word_and_state, push_word_and_txn};
+use crate::lines::{push_answer, push_labelled, push_text};
 use e3_types::{Answer, Call, Dir, List, Message, NoMemory, Op, State, Txn};
 
 // Adds a word, and a transaction and a number behind it.
@@ -38,8 +38,7 @@ fn push_word_and_attempt(
     ensures { OnOk result (out.new ≡ out.old ++ (word.now ++ txn_and_attempt txn.now n dir)) }
 {
     push_word_and_number(out, word, txn, n)?;
-    push_text(out, " ")?;
-    push_dir(out, dir)
+    push_word_and_dir(out, " ", dir)
 }
 
 #[tactic(auto, unfolding(crate::specs::lines::Messages::do_message))]
@@ -72,8 +71,7 @@ fn push_died(out: &mut List<u8>, txn: &Txn, n: u32, older: &Txn) -> Result<(), N
     ensures { OnOk result (out.new ≡ out.old ++ died_message txn.now n older.now) }
 {
     push_word_and_number(out, "died ", txn, n)?;
-    push_text(out, " ")?;
-    push_txn(out, older)
+    push_word_and_txn(out, " ", older)
 }
 
 #[tactic(auto, unfolding(crate::specs::lines::Messages::last_message))]
@@ -95,8 +93,7 @@ fn push_report(
     ensures { OnOk result (out.new ≡ out.old ++ report_message txn.now n state attempt) }
 {
     push_word_and_number(out, "report ", txn, n)?;
-    push_text(out, " ")?;
-    push_state(out, state)?;
+    push_word_and_state(out, " ", state)?;
     push_labelled(out, " ", attempt as u64)
 }
 
@@ -132,8 +129,7 @@ fn push_decide(out: &mut List<u8>, txn: &Txn, dir: Dir) -> Result<(), NoMemory>
     ensures { OnOk result (out.new ≡ out.old ++ decide_message txn.now dir) }
 {
     push_word_and_txn(out, "decide ", txn)?;
-    push_text(out, " ")?;
-    push_dir(out, dir)
+    push_word_and_dir(out, " ", dir)
 }
 
 /// Adds a message.

@@ -7,7 +7,8 @@ ghost use Rattle.e3_report.specs.lines.Records.{row_line, birth_row_line, birth_
 
 use crate::lines::listed::{Lines, push_each};
 use crate::lines::texts::{
-    push_commas, push_dir, push_labelled, push_line_end, push_text, push_word_and_txn,
+    push_commas, push_labelled, push_line_end, push_text, push_word_and_bytes, push_word_and_dir,
+    push_word_and_txn,
 };
 use e3_types::{Dir, Key, List, NoMemory, NumOp, Op, Record, Row, Txn};
 
@@ -17,8 +18,7 @@ impl Lines for Row {
     #[tactic(auto, unfolding(crate::specs::lines::Records::row_line))]
     fn push(&self, out: &mut List<u8>) -> Result<(), NoMemory> {
         out.extend(self.name.bytes())?;
-        push_text(out, " ")?;
-        out.extend(self.val.bytes())?;
+        push_word_and_bytes(out, " ", self.val.bytes())?;
         push_line_end(out)
     }
 }
@@ -28,6 +28,14 @@ pub(crate) fn push_rows(out: &mut List<u8>, rows: &[Row]) -> Result<(), NoMemory
     ensures { OnOk result (out.new ≡ out.old ++ flat_map row_line rows.now) }
 {
     push_each(out, rows)
+}
+
+// Adds the mark, and a word with a number behind it.
+fn push_mark_and_number(out: &mut List<u8>, mark: &str, word: &str, n: u32) -> Result<(), NoMemory>
+    ensures { OnOk result (out.new ≡ out.old ++ (mark.now ++ word.now ++ decimal n)) }
+{
+    push_text(out, mark)?;
+    push_labelled(out, word, n as u64)
 }
 
 // Adds the mark, and a word with a number and the name of a key behind it.
@@ -40,10 +48,8 @@ fn push_mark_and_name(
 ) -> Result<(), NoMemory>
     ensures { OnOk result (out.new ≡ out.old ++ (mark.now ++ word.now ++ decimal n ++ codes " " ++ key.now.name)) }
 {
-    push_text(out, mark)?;
-    push_labelled(out, word, n as u64)?;
-    push_text(out, " ")?;
-    out.extend(key.name.bytes())
+    push_mark_and_number(out, mark, word, n)?;
+    push_word_and_bytes(out, " ", key.name.bytes())
 }
 
 // Adds the mark, and a word with a transaction behind it.
@@ -63,6 +69,15 @@ fn push_birth_row(out: &mut List<u8>, mark: &str, row: &Row) -> Result<(), NoMem
     row.push(out)
 }
 
+fn push_birth_rows(out: &mut List<u8>, mark: &str, rows: &[Row]) -> Result<(), NoMemory>
+    ensures { OnOk result (out.new ≡ out.old ++ flat_map (birth_row_line mark.now) rows.now) }
+{
+    for row in rows {
+        push_birth_row(out, mark, row)?;
+    }
+    Ok(())
+}
+
 #[tactic(auto, unfolding(crate::specs::lines::Records::birth_lines))]
 fn push_birth(
     out: &mut List<u8>,
@@ -73,15 +88,11 @@ fn push_birth(
 ) -> Result<(), NoMemory>
     ensures { OnOk result (out.new ≡ out.old ++ birth_lines mark.now format weights.now rows.now) }
 {
-    push_text(out, mark)?;
-    push_labelled(out, "birth ", format as u64)?;
+    push_mark_and_number(out, mark, "birth ", format)?;
     push_text(out, " ")?;
     push_commas(out, weights)?;
     push_line_end(out)?;
-    for row in rows {
-        push_birth_row(out, mark, row)?;
-    }
-    Ok(())
+    push_birth_rows(out, mark, rows)
 }
 
 #[tactic(auto, unfolding(crate::specs::lines::Records::op_line, crate::specs::lines::Records::read_line, crate::specs::lines::Records::write_line))]
@@ -95,11 +106,19 @@ fn push_op(out: &mut List<u8>, mark: &str, op: &NumOp) -> Result<(), NoMemory>
         }
         Op::Write(key, val) => {
             push_mark_and_name(out, mark, "write ", op.n, key)?;
-            push_text(out, " ")?;
-            out.extend(val.bytes())?;
+            push_word_and_bytes(out, " ", val.bytes())?;
             push_line_end(out)
         }
     }
+}
+
+fn push_ops(out: &mut List<u8>, mark: &str, ops: &[NumOp]) -> Result<(), NoMemory>
+    ensures { OnOk result (out.new ≡ out.old ++ flat_map (op_line mark.now) ops.now) }
+{
+    for op in ops {
+        push_op(out, mark, op)?;
+    }
+    Ok(())
 }
 
 #[tactic(auto, unfolding(crate::specs::lines::Records::vote_lines))]
@@ -109,18 +128,14 @@ fn push_vote(out: &mut List<u8>, mark: &str, txn: &Txn, ops: &[NumOp]) -> Result
     push_mark_and_txn(out, mark, "vote ", txn)?;
     push_labelled(out, " ", ops.len() as u64)?;
     push_line_end(out)?;
-    for op in ops {
-        push_op(out, mark, op)?;
-    }
-    Ok(())
+    push_ops(out, mark, ops)
 }
 
 #[tactic(auto, unfolding(crate::specs::lines::Records::inc_line))]
 fn push_inc(out: &mut List<u8>, mark: &str, inc: u32) -> Result<(), NoMemory>
     ensures { OnOk result (out.new ≡ out.old ++ inc_line mark.now inc) }
 {
-    push_text(out, mark)?;
-    push_labelled(out, "inc ", inc as u64)?;
+    push_mark_and_number(out, mark, "inc ", inc)?;
     push_line_end(out)
 }
 
@@ -139,8 +154,7 @@ fn push_attempt(out: &mut List<u8>, mark: &str, txn: &Txn, n: u32, dir: Dir) -> 
 {
     push_mark_and_txn(out, mark, "attempt ", txn)?;
     push_labelled(out, " ", n as u64)?;
-    push_text(out, " ")?;
-    push_dir(out, dir)?;
+    push_word_and_dir(out, " ", dir)?;
     push_line_end(out)
 }
 
@@ -149,8 +163,7 @@ fn push_decision(out: &mut List<u8>, mark: &str, txn: &Txn, dir: Dir) -> Result<
     ensures { OnOk result (out.new ≡ out.old ++ decision_line mark.now txn.now dir) }
 {
     push_mark_and_txn(out, mark, "decision ", txn)?;
-    push_text(out, " ")?;
-    push_dir(out, dir)?;
+    push_word_and_dir(out, " ", dir)?;
     push_line_end(out)
 }
 

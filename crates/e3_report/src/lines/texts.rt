@@ -93,16 +93,27 @@ pub(crate) fn push_sites(out: &mut List<u8>, sites: SiteSet) -> Result<(), NoMem
     }
 }
 
+/// Adds a word and the sites of a set behind it.
+pub(crate) fn push_word_and_sites(
+    out: &mut List<u8>,
+    word: &str,
+    sites: SiteSet,
+) -> Result<(), NoMemory>
+    ensures { OnOk result (out.new ≡ out.old ++ (word.now ++ sites_text sites)) }
+{
+    push_text(out, word)?;
+    push_sites(out, sites)
+}
+
 #[tactic(auto, unfolding(crate::specs::lines::Texts::after_bar))]
 fn push_after_bar(out: &mut List<u8>, part: SiteSet) -> Result<(), NoMemory>
     ensures { OnOk result (out.new ≡ out.old ++ after_bar part) }
 {
-    push_text(out, "|")?;
-    push_sites(out, part)
+    push_word_and_sites(out, "|", part)
 }
 
 /// Adds the parts of the network with bars between them.
-pub(crate) fn push_parts(out: &mut List<u8>, parts: &[SiteSet]) -> Result<(), NoMemory>
+fn push_parts(out: &mut List<u8>, parts: &[SiteSet]) -> Result<(), NoMemory>
     ensures { OnOk result (out.new ≡ out.old ++ parts_text parts.now) }
 {
     if let [first, more @ ..] = parts {
@@ -112,6 +123,18 @@ pub(crate) fn push_parts(out: &mut List<u8>, parts: &[SiteSet]) -> Result<(), No
         }
     }
     Ok(())
+}
+
+/// Adds a word and the parts of the network behind it.
+pub(crate) fn push_word_and_parts(
+    out: &mut List<u8>,
+    word: &str,
+    parts: &[SiteSet],
+) -> Result<(), NoMemory>
+    ensures { OnOk result (out.new ≡ out.old ++ (word.now ++ parts_text parts.now)) }
+{
+    push_text(out, word)?;
+    push_parts(out, parts)
 }
 
 /// Adds a transaction's name.
@@ -132,14 +155,33 @@ pub(crate) fn push_word_and_txn(out: &mut List<u8>, word: &str, txn: &Txn) -> Re
     push_txn(out, txn)
 }
 
+/// Adds a word and some bytes behind it.
+pub(crate) fn push_word_and_bytes(
+    out: &mut List<u8>,
+    word: &str,
+    bytes: &[u8],
+) -> Result<(), NoMemory>
+    ensures { OnOk result (out.new ≡ out.old ++ (word.now ++ bytes.now)) }
+{
+    push_text(out, word)?;
+    out.extend(bytes)
+}
+
 /// Adds a key.
 #[tactic(auto, unfolding(crate::specs::lines::Texts::key_text))]
 pub(crate) fn push_key(out: &mut List<u8>, key: &Key) -> Result<(), NoMemory>
     ensures { OnOk result (out.new ≡ out.old ++ key_text key.now) }
 {
     push_number(out, key.site as u64)?;
-    push_text(out, ".")?;
-    out.extend(key.name.bytes())
+    push_word_and_bytes(out, ".", key.name.bytes())
+}
+
+/// Adds a word and a key behind it.
+pub(crate) fn push_word_and_key(out: &mut List<u8>, word: &str, key: &Key) -> Result<(), NoMemory>
+    ensures { OnOk result (out.new ≡ out.old ++ (word.now ++ key_text key.now)) }
+{
+    push_text(out, word)?;
+    push_key(out, key)
 }
 
 /// Adds a direction.
@@ -151,6 +193,14 @@ pub(crate) fn push_dir(out: &mut List<u8>, dir: Dir) -> Result<(), NoMemory>
         Dir::Abort => push_text(out, "abort"),
         Dir::Commit => push_text(out, "commit"),
     }
+}
+
+/// Adds a word and a direction behind it.
+pub(crate) fn push_word_and_dir(out: &mut List<u8>, word: &str, dir: Dir) -> Result<(), NoMemory>
+    ensures { OnOk result (out.new ≡ out.old ++ (word.now ++ dir_text dir)) }
+{
+    push_text(out, word)?;
+    push_dir(out, dir)
 }
 
 /// Adds a state.
@@ -168,6 +218,18 @@ pub(crate) fn push_state(out: &mut List<u8>, state: State) -> Result<(), NoMemor
     }
 }
 
+/// Adds a word and a state behind it.
+pub(crate) fn push_word_and_state(
+    out: &mut List<u8>,
+    word: &str,
+    state: State,
+) -> Result<(), NoMemory>
+    ensures { OnOk result (out.new ≡ out.old ++ (word.now ++ state_text state)) }
+{
+    push_text(out, word)?;
+    push_state(out, state)
+}
+
 /// Adds what a stop leaves.
 #[tactic(auto, unfolding(crate::specs::lines::Texts::leave_text))]
 pub fn push_leave(out: &mut List<u8>, leave: Leave) -> Result<(), NoMemory>
@@ -177,7 +239,7 @@ pub fn push_leave(out: &mut List<u8>, leave: Leave) -> Result<(), NoMemory>
         Leave::None => push_text(out, "none"),
         Leave::Half => push_text(out, "half"),
         Leave::All => push_text(out, "all"),
-        Leave::Junk(byte) => { push_labelled(out, "junk ", byte as u64) }
+        Leave::Junk(byte) => push_labelled(out, "junk ", byte as u64),
     }
 }
 

@@ -25,7 +25,7 @@ pub fn log_now(alloc: Global, a: &At, made: &Made) -> Result<List<Record>, NoMem
 }
 
 // Adds copies of what a site had, recorded, sent and told to a moment.
-fn fill(
+fn fill_moment(
     alloc: Global,
     before: &[Record],
     records: &[Record],
@@ -65,8 +65,13 @@ fn add_moment(
         outs: List::new(alloc),
         told: List::new(alloc),
     };
-    fill(alloc, before, records, outs, told, &mut m)?;
-    out.push(m)
+    match fill_moment(alloc, before, records, outs, told, &mut m) {
+        Ok(()) => out.push(m),
+        Err(e) => {
+            drop(m);
+            Err(e)
+        }
+    }
 }
 
 fn add_steps(alloc: Global, steps: &[Moment], out: &mut List<Moment>) -> Result<(), NoMemory>

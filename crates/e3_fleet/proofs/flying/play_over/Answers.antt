@@ -8,6 +8,7 @@ use Rattle.e3_fleet.proofs.flying.play_over.Goals as goal
 use Rattle.e3_play.specs.Delivered.{IsFull}
 use Rattle.e3_types.specs.declared.entries.Entry.{Entry}
 use Rattle.e3_types.specs.declared.scenarios.Scenario.{Scenario}
+use Rattle.e3_world.specs.Legal.{IsLegal}
 
 pub fly-ended-requires-clause-unarmed : goal.fly-ended-requires-clause-unarmed
 fly-ended-requires-clause-unarmed g c κs lives =
@@ -40,6 +41,51 @@ unseat_all-requires g c =
     let all : length c.open.new.disks.items + length c.fly-ended.result.workers.items ≡ length c.args.disks.items =
     room_left (nodes_of c.open.new.workers.items) c.open.new.disks.items c.args.disks.items (length c.fly-ended.result.workers.items) c.open.ensures.disks
     (c.fly-ended.ensures.count ∙ sym (nodes_length c.open.new.workers.items)) in
+    let one = c.open.new.disks.ok.0 in
+    let two = c.args.disks.ok.0 in
+    let low = c.args.disks.ok.1 in
+    let same = c.open.ensures.disks_room in
+    omega (arith, all, one, two, low, same)
+
+pub fly-ended-requires-clause-played : goal.fly-ended-requires-clause-played
+fly-ended-requires-clause-played g c κs lives = c.in-Ok.ensures.new.0
+
+pub fly-ended-requires-clause-empty : goal.fly-ended-requires-clause-empty
+fly-ended-requires-clause-empty g c κs lives = c.in-Ok.ensures.new.1
+
+pub fly-ended-requires-clause-taken : goal.fly-ended-requires-clause-taken
+fly-ended-requires-clause-taken g c κs lives = c.in-Ok.ensures.taken
+
+pub fly-ended-requires-clause-stands : goal.fly-ended-requires-clause-stands
+fly-ended-requires-clause-stands g c κs lives = c.in-Ok.ensures.stands
+
+pub returns-in-Ok-clause-legal : goal.returns-in-Ok-clause-legal
+returns-in-Ok-clause-legal g c = c.fly-ended.ensures.legal
+
+pub returns-in-Ok-clause-within : goal.returns-in-Ok-clause-within
+returns-in-Ok-clause-within g c =
+    subst (λ (most : ℕ). length c.fly-ended.result.history.entries ≤ most) c.in-Ok.ensures.new.2 c.fly-ended.ensures.within
+
+pub returns-in-Ok-clause-whole : goal.returns-in-Ok-clause-whole
+returns-in-Ok-clause-whole g c = c.fly-ended.ensures.whole
+
+pub returns-in-Err-clause-legal : goal.returns-in-Err-clause-legal
+returns-in-Err-clause-legal g c = subst (λ (h : List Entry). IsLegal c.args.scenario.now h) (sym c.new.ensures) tt
+
+pub returns-in-Err-clause-within : goal.returns-in-Err-clause-within
+returns-in-Err-clause-within g c = subst (λ (h : List Entry). length h ≤ c.args.most) (sym c.new.ensures) (omega arith)
+
+pub returns-in-Err-clause-whole : goal.returns-in-Err-clause-whole
+returns-in-Err-clause-whole g c = tt
+
+pub fly-ended-requires-clause-given : goal.fly-ended-requires-clause-given
+fly-ended-requires-clause-given g c κs lives = c.requires.given
+
+pub unseat_all-requires-in-Err : goal.unseat_all-requires-in-Err
+unseat_all-requires-in-Err g c =
+    let all : length c.open.new.disks.items + length c.open.new.workers.items ≡ length c.args.disks.items =
+    room_left (nodes_of c.open.new.workers.items) c.open.new.disks.items c.args.disks.items (length c.open.new.workers.items) c.open.ensures.disks
+    (sym (nodes_length c.open.new.workers.items)) in
     let one = c.open.new.disks.ok.0 in
     let two = c.args.disks.ok.0 in
     let low = c.args.disks.ok.1 in

@@ -24,3 +24,21 @@ returns-clause-seated g c =
     subst (λ (ns : List (NodeView g.row.D.Denot)). AreSeated g.D.Disk.meaning c.args.scenario.now [] ns) (sym more)
     (seat_more g.D.Disk.meaning c.args.scenario.now (nodes_of c.args.workers.now.items) c.down-node.result c.requires.seated
     (site ∙ ap (λ (n : ℕ). n + 1) (sym (nodes_length c.args.workers.now.items))) (c.down-node.ensures.stands c.args.scenario.now (search rules) (search rules)))
+
+pub returns-in_err-weights-clause-seated : goal.returns-in_err-weights-clause-seated
+returns-in_err-weights-clause-seated g c = c.requires.seated
+
+pub returns-in_err-weights-clause-disks : goal.returns-in_err-weights-clause-disks
+returns-in_err-weights-clause-disks g c = refl
+
+pub returns-in_err-weights-clause-blank : goal.returns-in_err-weights-clause-blank
+returns-in_err-weights-clause-blank g c = c.requires.blank
+
+pub returns-in_err-rows-clause-seated : goal.returns-in_err-rows-clause-seated
+returns-in_err-rows-clause-seated g c = c.requires.seated
+
+pub returns-in_err-rows-clause-disks : goal.returns-in_err-rows-clause-disks
+returns-in_err-rows-clause-disks g c = refl
+
+pub returns-in_err-rows-clause-blank : goal.returns-in_err-rows-clause-blank
+returns-in_err-rows-clause-blank g c = c.requires.blank

@@ -1,34 +1,31 @@
-use Rattle.std.proofs.Common.{◌≡◌, ◌+◌, ℕ, List, get_or, take, drop, length, refl, ap, ◌∙◌, arith, rules}
-use Rattle.std.specs.Int.{w32, to_be_bytes}
+use Rattle.std.proofs.Common.{◌+◌, List, ℕ, take, drop, length, refl, ap, ◌∙◌}
 use Rattle.e3_log.specs.Fronts.{told_by}
 use Rattle.e3_log.specs.Opening.{FrameAt}
 use Rattle.e3_log.specs.Regions.{window}
-use Rattle.e3_log.proofs.Looking.{looks_alike, looks_then}
-use Rattle.e3_log.proofs.Reading.{frame_at}
-use Rattle.e3_log.proofs.Windows.{window_full}
+use Rattle.e3_log.proofs.Looking.{not_err, looks_both, looks_ok}
 use Rattle.e3_log.proofs.open.read_front.Goals as goal
 
-pub returns-clause-front : goal.returns-clause-front
-returns-clause-front g c =
-    let content = g.D.Disk.meaning.content c.args.disk.now in
-    let w = window c.args.span.from c.args.span.count content in
-    let n = c.from-size.result in
-    let full : length w ≡ c.args.span.count = window_full c.args.span.from c.args.span.count content c.requires.may.inside in
-    let gate : get_or (take 1 (drop 0 w)) 0 0 ≡ 165 = c.in_ok-is_open.ensures.gate.0 (search rules) in
-    let size : to_be_bytes w32 n ≡ take 4 (drop 1 w) =
-    ap (to_be_bytes w32) c.from-size.ensures ∙ c.in_ok-read_size.ensures.size
-    ∙ ap (λ (l : List ℕ). take 4 (drop 1 (window c.args.span.from c.args.span.count l))) (c.in_ok-is_open.ensures.looks.same (λ e. absurd cc)) in
-    let same : g.D.Disk.meaning.content c.read_size.new.disk ≡ content = c.in_ok-read_size.ensures.looks.same (λ e. absurd cc) ∙ c.in_ok-is_open.ensures.looks.same (λ e. absurd cc) in
+pub returns-in_ok-told-in-Whole-clause-front : goal.returns-in_ok-told-in-Whole-clause-front
+returns-in_ok-told-in-Whole-clause-front g c =
+    let span = c.args.span in
+    let w = window span.from span.count (g.D.Disk.meaning.content c.args.disk.now) in
+    let n = c.in-Whole.size in
+    let sized = rw c.in-Whole.is at c.in_ok-read_head.ensures.head in
     let body : List ℕ = take n (drop 5 w) in
-    let f : FrameAt w 0 body = frame_at w 0 n body gate size (omega arith) refl (omega arith) in
+    let f : FrameAt w 0 body = sized.frame_is body refl in
     record {
       body = body;
       rest = drop (5 + length body) w;
       parts = f.parts;
       fits = f.fits;
-      tells = c.in_ok-told.ensures.told ∙ ap (λ (l : List ℕ). told_by (take n (drop 5 (window c.args.span.from c.args.span.count l)))) same;
+      tells = c.in_ok-told-in-Whole.ensures.told ∙ ap (λ (l : List ℕ). told_by (take n (drop 5 (window span.from span.count l)))) (c.in_ok-read_head.ensures.looks.same not_err);
     }
 
-pub returns-clause-looks : goal.returns-clause-looks
-returns-clause-looks g c = looks_alike (λ e. absurd cc) (λ e. absurd cc)
-    (looks_then (λ e. absurd cc) (looks_then (λ e. absurd cc) c.in_ok-is_open.ensures.looks c.in_ok-read_size.ensures.looks) c.in_ok-told.ensures.looks)
+pub returns-in-Shut-clause-looks : goal.returns-in-Shut-clause-looks
+returns-in-Shut-clause-looks g c = looks_ok c.in_ok-read_head.ensures.looks
+
+pub returns-in-Broken-clause-looks : goal.returns-in-Broken-clause-looks
+returns-in-Broken-clause-looks g c = looks_ok c.in_ok-read_head.ensures.looks
+
+pub returns-in_ok-told-in-Whole-clause-looks : goal.returns-in_ok-told-in-Whole-clause-looks
+returns-in_ok-told-in-Whole-clause-looks g c = looks_both c.in_ok-read_head.ensures.looks c.in_ok-told-in-Whole.ensures.looks

@@ -37,13 +37,13 @@ returns-in-Some-clause-added g c = λ yes.
     let claimed : c.one_more.new.shared ≡ c.args.shared.now ++ mark.Place c.args.number (length d.plan.step.outs) ∷ [] =
     subst (λ (r : Option Lengthened). IfSome r (λ _. c.one_more.new.shared ≡ c.args.shared.now ++ mark.Place c.args.number (length d.plan.step.outs) ∷ [])) c.in-Some.is c.in-Ok.ensures.claimed in
     batch_added g.D.Disk.meaning.meters c.args.log.now g.at.scenario g.at.history g.at.site g.at.rose g.at.marks g.at.first g.at.done c.args.batch.now c.lengthen.new.batch c.args.site.now c.planned.new.site
-    c.apply.new.self c.args.shared.now c.one_more.new.shared (length d.plan.step.outs) c.args.input.now d c.apply.result c.step_of-step.result c.in-Some.longer.short c.requires.1.1.1.0 c.requires.1.1.1.1.1.0
-    c.requires.1.1.1.1.1.1.0 c.in_ok-draft.ensures.ready c.planned.ensures.still c.apply.ensures.step c.apply.ensures.stand
-    (ap (λ (v : SiteView). v.weights) c.apply.ensures.done) (ap (λ (v : SiteView). v.site) c.apply.ensures.done)
-    (ap (λ (v : SiteView). v.inputs) c.apply.ensures.done)
-    (c.step_of-step.ensures ∙ ap (λ (i : Input). entry_of_plan c.args.number i c.apply.result) c.copy.ensures ∙ ap (λ (n : ℕ). entry_of_plan n c.args.input.now c.apply.result) c.requires.1.1.0)
+    c.step_with-step.new.site c.args.shared.now c.one_more.new.shared (length d.plan.step.outs) c.args.input.now d c.in_ok-draft.draft.plan.step c.step_with-step.result c.in-Some.longer.short c.requires.1.1.1.0 c.requires.1.1.1.1.1.0
+    c.requires.1.1.1.1.1.1.0 c.in_ok-draft.ensures.ready c.planned.ensures.still refl c.step_with-step.ensures.stand
+    (ap (λ (v : SiteView). v.weights) c.step_with-step.ensures.done) (ap (λ (v : SiteView). v.site) c.step_with-step.ensures.done)
+    (ap (λ (v : SiteView). v.inputs) c.step_with-step.ensures.done)
+    (c.step_with-step.ensures.entry ∙ ap (λ (i : Input). entry_of_plan c.args.number i c.in_ok-draft.draft.plan.step) c.copy.ensures ∙ ap (λ (n : ℕ). entry_of_plan n c.args.input.now c.in_ok-draft.draft.plan.step) c.requires.1.1.0)
     refl
-    (ap (λ (b : Batch). b.steps.items) c.lengthen.ensures ∙ c.push_reserved.ensures.items ∙ ap (λ (l : List Entry). l ++ c.step_of-step.result ∷ []) c.reserve.ensures.items)
+    (ap (λ (b : Batch). b.steps.items) c.lengthen.ensures ∙ c.push_reserved.ensures.items ∙ ap (λ (l : List Entry). l ++ c.step_with-step.result ∷ []) c.reserve.ensures.items)
     (ap (λ (b : Batch). b.records) c.lengthen.ensures ∙ is.records)
     (ap (λ (b : Batch). b.body) c.lengthen.ensures ∙ is.body)
     (ap (λ (b : Batch). b.short) c.lengthen.ensures)

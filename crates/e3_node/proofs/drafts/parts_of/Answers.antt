@@ -12,5 +12,5 @@ returns c = record {
   body_is = c.in_ok-body.ensures.bytes ∙ ap spelling c.records.ensures;
   back = λ site. subst (λ (rs : List Record). Each (IsOfSite site) rs → AllCanBeReadBack site rs) c.records.ensures (c.in_ok-body.ensures.back site);
   inputs_are =
-      c.in_ok-push.ensures.ok ∙ ap (λ (l : List Input). l ++ c.copy.result ∷ []) c.new-inputs.ensures ∙ ap (λ (i : Input). i ∷ []) c.copy.ensures;
+      c.in_ok-push.ensures.ok ∙ ap (λ (l : List Input). l ++ c.copy-over.result ∷ []) c.new-inputs.ensures ∙ ap (λ (i : Input). i ∷ []) c.copy-over.ensures;
 }

@@ -1,8 +1,10 @@
-use Rattle.std.proofs.Common.{◌≡◌, ◌≢◌, ◌<◌, ◌^◌, [], ◌∙◌, ℕ, ap, sym, subst, List, length, arith}
+use Rattle.std.proofs.lemmas.Bool.{leb-true}
+use Rattle.std.proofs.Common.{◌≡◌, ◌≢◌, ◌<◌, ◌^◌, [], ◌∙◌, ℕ, ap, refl, sym, subst, List, length, arith}
 use Rattle.e3_node.specs.Bodies.{DiskTells, entries_at}
 use Rattle.e3_node.specs.Ends.{FellOver, IsOneFrame}
 use Rattle.e3_node.specs.NodeStands.{IsUp, StandsBy}
 use Rattle.e3_node.specs.SharedStands.{HasEntered}
+use Rattle.e3_node.specs.declared.fault.InputFault.TheVariants as input_fault
 use Rattle.e3_site.specs.SiteView.{SiteView, count_on, entry_of_plan, step_kept}
 use Rattle.e3_node.specs.site_log.Ends.{HasRoom, HasRoomUnlessShort, IsReason, Takes, calls_for, size_of}
 use Rattle.e3_types.specs.declared.entries.Act.TheVariants.{Fall}
@@ -18,6 +20,7 @@ use Rattle.e3_node.proofs.Counts.{may_turn, one_more_entry}
 use Rattle.e3_node.proofs.Framing.{one_frame}
 use Rattle.e3_node.proofs.Guarding.{first_takes_least}
 use Rattle.e3_node.proofs.Orders.{step_order}
+use Rattle.e3_node.proofs.Refused.{for_memory, not_full, same_memory}
 use Rattle.e3_node.proofs.Sharing.{fall_uses, has_from, may_enter, step_uses, under}
 use Rattle.e3_node.proofs.Steps.{draft_made, fall_allowed, fall_entered, fall_takes, fallen_tells, inputs_on, own_are_few, own_stands, records_made, site_on, step_allowed, step_entered, step_logged, stepped_up}
 use Rattle.e3_node.proofs.Written.{Follows, step_follows, up_brief}
@@ -47,22 +50,20 @@ enter-requires-clause-may g c =
     let h = entries_of was in
     let d = c.in-Ok.draft in
     let made = draft_made sc h c.args.number c.args.site.now _ c.args.input d c.requires.up.stands c.in-Ok.ensures.ready in
-    let step : SiteStep = c.apply.result in
-    let is : step ≡ step_kept c.args.input (made_by sc h c.args.number c.args.input) = c.apply.ensures.step ∙ made.step_is in
+    let step : SiteStep = c.in-Ok.draft.plan.step in
+    let is : step ≡ step_kept c.args.input (made_by sc h c.args.number c.args.input) = made.step_is in
     let e : Entry = entry_of_plan c.args.number c.args.input step in
-    let fits : length step.outs ≡ length c.in-Ok.draft.plan.step.outs = ap (λ (p : SiteStep). length p.outs) c.apply.ensures.step in
     let small : length d.plan.step.outs < 2 ^ 32 = c.in-Ok.ensures.ready.few in
     let may : MayEnterBehind c.claim_place.new.shared e =
     may_enter was c.claim_place.new.shared _ e c.in-Ok-claim_place.ensures.claimed c.requires.shared.some (step_allowed sc h c.args.number c.args.input step is c.requires.shared.some c.requires.up.up c.requires.due)
-    (first_takes_least sc h c.args.number c.args.input c.requires.due c.requires.first) (omega (arith, fits)) small in
-    subst (λ (x : Entry). MayEnterBehind c.claim_place.new.shared x) (sym c.step_of-step.ensures) may
+    (first_takes_least sc h c.args.number c.args.input c.requires.due c.requires.first) (omega arith) small in
+    subst (λ (x : Entry). MayEnterBehind c.claim_place.new.shared x) (sym c.step_with-step.ensures.entry) may
 
 pub enter-requires-clause-all : goal.enter-requires-clause-all
 enter-requires-clause-all g c =
-    let step : SiteStep = c.apply.result in
-    let fits : length step.outs ≡ length c.in-Ok.draft.plan.step.outs = ap (λ (p : SiteStep). length p.outs) c.apply.ensures.step in
-    subst (λ (x : Entry). UsesAll c.claim_place.new.shared x) (sym c.step_of-step.ensures)
-    (step_uses c.args.number _ c.args.shared.now c.claim_place.new.shared c.args.input step.records step.outs step.told c.in-Ok-claim_place.ensures.claimed (sym fits))
+    let step : SiteStep = c.in-Ok.draft.plan.step in
+    subst (λ (x : Entry). UsesAll c.claim_place.new.shared x) (sym c.step_with-step.ensures.entry)
+    (step_uses c.args.number _ c.args.shared.now c.claim_place.new.shared c.args.input step.records step.outs step.told c.in-Ok-claim_place.ensures.claimed refl)
 
 pub enter-requires-in-Err-write-clause-may : goal.enter-requires-in-Err-write-clause-may
 enter-requires-in-Err-write-clause-may g c =
@@ -97,10 +98,10 @@ returns-in-Ok-write-clause-shared g c =
     let h = entries_of was in
     let d = c.in-Ok.draft in
     let made = draft_made sc h c.args.number c.args.site.now _ c.args.input d c.requires.up.stands c.in-Ok.ensures.ready in
-    let step : SiteStep = c.apply.result in
-    let is : step ≡ step_kept c.args.input (made_by sc h c.args.number c.args.input) = c.apply.ensures.step ∙ made.step_is in
+    let step : SiteStep = c.in-Ok.draft.plan.step in
+    let is : step ≡ step_kept c.args.input (made_by sc h c.args.number c.args.input) = made.step_is in
     let e : Entry = entry_of_plan c.args.number c.args.input step in
-    let has : HasEntered e was c.enter.new.shared = has_from was c.claim_place.new.shared c.enter.new.shared _ c.step_of-step.result e c.step_of-step.ensures c.in-Ok-claim_place.ensures.claimed c.enter.ensures in
+    let has : HasEntered e was c.enter.new.shared = has_from was c.claim_place.new.shared c.enter.new.shared _ c.step_with-step.result e c.step_with-step.ensures.entry c.in-Ok-claim_place.ensures.claimed c.enter.ensures in
     has.on
 
 pub returns-in-Ok-write-clause-stepped : goal.returns-in-Ok-write-clause-stepped
@@ -110,10 +111,10 @@ returns-in-Ok-write-clause-stepped g c =
     let h = entries_of was in
     let d = c.in-Ok.draft in
     let made = draft_made sc h c.args.number c.args.site.now _ c.args.input d c.requires.up.stands c.in-Ok.ensures.ready in
-    let step : SiteStep = c.apply.result in
-    let is : step ≡ step_kept c.args.input (made_by sc h c.args.number c.args.input) = c.apply.ensures.step ∙ made.step_is in
+    let step : SiteStep = c.in-Ok.draft.plan.step in
+    let is : step ≡ step_kept c.args.input (made_by sc h c.args.number c.args.input) = made.step_is in
     let e : Entry = entry_of_plan c.args.number c.args.input step in
-    let has : HasEntered e was c.enter.new.shared = has_from was c.claim_place.new.shared c.enter.new.shared _ c.step_of-step.result e c.step_of-step.ensures c.in-Ok-claim_place.ensures.claimed c.enter.ensures in
+    let has : HasEntered e was c.enter.new.shared = has_from was c.claim_place.new.shared c.enter.new.shared _ c.step_with-step.result e c.step_with-step.ensures.entry c.in-Ok-claim_place.ensures.claimed c.enter.ensures in
     step_entered sc h (entries_of c.enter.new.shared) c.args.number c.args.input step is has.entries
 
 pub returns-in-Ok-write-clause-up : goal.returns-in-Ok-write-clause-up
@@ -123,10 +124,10 @@ returns-in-Ok-write-clause-up g c =
     let h = entries_of was in
     let d = c.in-Ok.draft in
     let made = draft_made sc h c.args.number c.args.site.now _ c.args.input d c.requires.up.stands c.in-Ok.ensures.ready in
-    let step : SiteStep = c.apply.result in
-    let is : step ≡ step_kept c.args.input (made_by sc h c.args.number c.args.input) = c.apply.ensures.step ∙ made.step_is in
+    let step : SiteStep = c.in-Ok.draft.plan.step in
+    let is : step ≡ step_kept c.args.input (made_by sc h c.args.number c.args.input) = made.step_is in
     let e : Entry = entry_of_plan c.args.number c.args.input step in
-    let has : HasEntered e was c.enter.new.shared = has_from was c.claim_place.new.shared c.enter.new.shared _ c.step_of-step.result e c.step_of-step.ensures c.in-Ok-claim_place.ensures.claimed c.enter.ensures in
+    let has : HasEntered e was c.enter.new.shared = has_from was c.claim_place.new.shared c.enter.new.shared _ c.step_with-step.result e c.step_with-step.ensures.entry c.in-Ok-claim_place.ensures.claimed c.enter.ensures in
     let entered = step_entered sc h (entries_of c.enter.new.shared) c.args.number c.args.input step is has.entries in
     let ready : StandsBy sc h c.args.number c.args.rose.now c.prepare.new.site =
     record { alike = c.in-Ok.ensures.still.stands sc h c.args.number c.args.rose.now c.requires.up.stands.alike; risen = c.requires.up.stands.risen; order = c.requires.up.stands.order } in
@@ -139,13 +140,13 @@ returns-in-Ok-write-clause-up g c =
     c.requires.shared.stands.played.given c.requires.shared.stands.played.legal c.requires.shared.some c.requires.up.up c.requires.due in
     let wrote = c.in-Ok-write.ensures.logged c.args.number (entries_at h c.args.number) (log_of sc h c.args.number) c.requires.up.logged follows.short follows.orderly follows.back in
     let logged = step_logged g.D.Disk.meaning sc h c.args.number c.args.input c.records-records.result.now c.write.new.logged c.write.new.log slice wrote in
-    subst (λ (l : List Entry). IsUp g.D.Disk.meaning sc l c.args.number c.apply.new.self c.write.new.log c.args.rose.now c.write.new.logged) (sym entered)
-    (stepped_up g.D.Disk.meaning sc h c.args.number c.args.input c.apply.new.self c.write.new.log c.write.new.logged c.requires.up.up
-    (site_on sc h c.args.number c.args.input c.prepare.new.site c.apply.new.self d.plan.step ready made.step_is
-    (ap (λ (s : SiteView). s.weights) c.apply.ensures.done) (ap (λ (s : SiteView). s.site) c.apply.ensures.done) c.apply.ensures.stand order)
+    subst (λ (l : List Entry). IsUp g.D.Disk.meaning sc l c.args.number c.step_with-step.new.site c.write.new.log c.args.rose.now c.write.new.logged) (sym entered)
+    (stepped_up g.D.Disk.meaning sc h c.args.number c.args.input c.step_with-step.new.site c.write.new.log c.write.new.logged c.requires.up.up
+    (site_on sc h c.args.number c.args.input c.prepare.new.site c.step_with-step.new.site d.plan.step ready made.step_is
+    (ap (λ (s : SiteView). s.weights) c.step_with-step.ensures.done) (ap (λ (s : SiteView). s.site) c.step_with-step.ensures.done) c.step_with-step.ensures.stand order)
     logged c.in-Ok-write.ensures.lit
     (inputs_on sc h c.args.number c.args.input c.args.site.now.inputs _ c.requires.up.inputs
-    (ap (λ (s : SiteView). s.inputs) c.apply.ensures.done ∙ ap (λ (s : SiteView). count_on s.inputs) c.in-Ok.ensures.still.same)))
+    (ap (λ (s : SiteView). s.inputs) c.step_with-step.ensures.done ∙ ap (λ (s : SiteView). count_on s.inputs) c.in-Ok.ensures.still.same)))
 
 pub returns-in-Ok-claim_place-clause-shared : goal.returns-in-Ok-claim_place-clause-shared
 returns-in-Ok-claim_place-clause-shared g c =
@@ -263,3 +264,41 @@ returns-in-Ok-write-clause-takes g c =
     let made = draft_made sc h c.args.number c.args.site.now _ c.args.input d c.requires.up.stands c.in-Ok.ensures.ready in
     let T : List Record → Type 0 = λ rs. Takes (calls_for rs) (g.D.Disk.meaning.meters c.args.log.now.disk) (g.D.Disk.meaning.meters c.write.new.log.disk) in
     subst T (c.records-records.ensures ∙ records_made sc h c.args.number c.args.input d.plan.step made.step_is) c.in-Ok-write.ensures.takes
+
+pub returns-then-is_full-clause-full : goal.returns-then-is_full-clause-full
+returns-then-is_full-clause-full g c = (λ is. leb-true _ _ (sym c.is_full.ensures ∙ c.if-is_full.true), λ all. refl)
+
+pub returns-in-Ok-write-clause-full : goal.returns-in-Ok-write-clause-full
+returns-in-Ok-write-clause-full g c = (λ is. absurd cc, λ all. absurd (not_full _ _ _ c.is_full.ensures c.if-is_full.false all))
+
+pub returns-in-Ok-claim_place-clause-full : goal.returns-in-Ok-claim_place-clause-full
+returns-in-Ok-claim_place-clause-full g c = (λ is. absurd cc, λ all. absurd (not_full _ _ _ c.is_full.ensures c.if-is_full.false all))
+
+pub returns-clause-full : goal.returns-clause-full
+returns-clause-full g c = (λ is. absurd cc, λ all. absurd (not_full _ _ _ c.is_full.ensures c.if-is_full.false all))
+
+-- a claim that was refused here was refused for want of memory
+pub returns-in-Ok-clause-full : goal.returns-in-Ok-clause-full
+returns-in-Ok-clause-full g c =
+    let memory = for_memory c.claim_place.result c.in-Err-claim_place.fault c.claim_place.ensures.refused c.in-Err-claim_place.is in
+    (λ is. absurd (let other : input_fault.HistoryFull ≡ input_fault.NoMemory = same_memory _ _ _ memory refl is in cc), λ all. absurd (not_full _ _ _ c.is_full.ensures c.if-is_full.false all))
+
+pub returns-in-Ok-clause-never : goal.returns-in-Ok-clause-never
+returns-in-Ok-clause-never g c = λ is.
+    let memory = for_memory c.claim_place.result c.in-Err-claim_place.fault c.claim_place.ensures.refused c.in-Err-claim_place.is in
+    absurd (let other : input_fault.Down ≡ input_fault.NoMemory = same_memory _ _ _ memory refl is in cc)
+
+pub returns-in-Ok-clause-fell : goal.returns-in-Ok-clause-fell
+returns-in-Ok-clause-fell g c = λ why is.
+    let memory = for_memory c.claim_place.result c.in-Err-claim_place.fault c.claim_place.ensures.refused c.in-Err-claim_place.is in
+    absurd (let other : input_fault.Fell why ≡ input_fault.NoMemory = same_memory _ _ _ memory refl is in cc)
+
+pub returns-in-Ok-clause-why : goal.returns-in-Ok-clause-why
+returns-in-Ok-clause-why g c = λ why is.
+    let memory = for_memory c.claim_place.result c.in-Err-claim_place.fault c.claim_place.ensures.refused c.in-Err-claim_place.is in
+    absurd (let other : input_fault.Fell why ≡ input_fault.NoMemory = same_memory _ _ _ memory refl is in cc)
+
+pub returns-in-Ok-clause-room : goal.returns-in-Ok-clause-room
+returns-in-Ok-clause-room g c = λ why is fits.
+    let memory = for_memory c.claim_place.result c.in-Err-claim_place.fault c.claim_place.ensures.refused c.in-Err-claim_place.is in
+    absurd (let other : input_fault.Fell why ≡ input_fault.NoMemory = same_memory _ _ _ memory refl is in cc)

@@ -56,7 +56,7 @@ pub commit_entry-requires-clause-owns : goal.commit_entry-requires-clause-owns
 commit_entry-requires-clause-owns g c =
     let p = c.args.pass.now in
     let q = c.claim_place_by_turns.new.pass in
-    subst (λ (y : Entry). Owns q y.owner) (sym c.step_of-step.ensures) (still_owns p q c.args.number c.in-Ok-claim_place_by_turns.ensures.same c.requires.turns.owns)
+    subst (λ (y : Entry). Owns q y.owner) (sym c.step_with-step.ensures.entry) (still_owns p q c.args.number c.in-Ok-claim_place_by_turns.ensures.same c.requires.turns.owns)
 
 pub commit_entry-requires-clause-may : goal.commit_entry-requires-clause-may
 commit_entry-requires-clause-may g c =
@@ -68,15 +68,14 @@ commit_entry-requires-clause-may g c =
     let made = draft_made sc h c.args.number c.args.site.now _ c.args.input d c.requires.up.stands c.in-Ok.ensures.ready in
     let due = taken_is_due sc h c.args.number c.args.input c.requires.turns.restless c.requires.due c.requires.takes in
     let cl = c.in-Ok-claim_place_by_turns.ensures.claimed in
-    let step : SiteStep = c.apply.result in
-    let is : step ≡ step_kept c.args.input (made_by sc h c.args.number c.args.input) = c.apply.ensures.step ∙ made.step_is in
+    let step : SiteStep = c.in-Ok.draft.plan.step in
+    let is : step ≡ step_kept c.args.input (made_by sc h c.args.number c.args.input) = made.step_is in
     let e : Entry = entry_of_plan c.args.number c.args.input step in
     let allows = step_allowed sc h c.args.number c.args.input step is c.requires.turns.some c.requires.up.up due in
-    let fits : length step.outs ≡ length d.plan.step.outs = ap (λ (p : SiteStep). length p.outs) c.apply.ensures.step in
     let may : MayEnterBehind (seen_by q) e =
     may_commit p (seen_by q) _ e cl.between c.requires.turns.owns cl.grew cl.played cl.is c.requires.turns.played c.in-Ok-claim_place_by_turns.ensures.played c.requires.turns.some c.requires.turns.exists c.requires.turns.restless allows
-    c.requires.takes (omega (arith, fits)) in
-    subst (λ (y : Entry). MayEnterBehind (seen_by q) y) (sym c.step_of-step.ensures) may
+    c.requires.takes (omega arith) in
+    subst (λ (y : Entry). MayEnterBehind (seen_by q) y) (sym c.step_with-step.ensures.entry) may
 
 pub commit_entry-requires-clause-alone : goal.commit_entry-requires-clause-alone
 commit_entry-requires-clause-alone g c = λ calm.
@@ -131,18 +130,17 @@ returns-in-Ok-write-clause-turned g c =
     let made = draft_made sc h c.args.number c.args.site.now _ c.args.input d c.requires.up.stands c.in-Ok.ensures.ready in
     let due = taken_is_due sc h c.args.number c.args.input c.requires.turns.restless c.requires.due c.requires.takes in
     let cl = c.in-Ok-claim_place_by_turns.ensures.claimed in
-    let step : SiteStep = c.apply.result in
-    let is : step ≡ step_kept c.args.input (made_by sc h c.args.number c.args.input) = c.apply.ensures.step ∙ made.step_is in
+    let step : SiteStep = c.in-Ok.draft.plan.step in
+    let is : step ≡ step_kept c.args.input (made_by sc h c.args.number c.args.input) = made.step_is in
     let e : Entry = entry_of_plan c.args.number c.args.input step in
-    let fits : length step.outs ≡ length d.plan.step.outs = ap (λ (p : SiteStep). length p.outs) c.apply.ensures.step in
     let allows = step_allowed sc h c.args.number c.args.input step is c.requires.turns.some c.requires.up.up due in
     let r = c.commit_entry.new.pass in
     let P : Entry → Type 0 = λ y. (later : List Mark) × GrewByOthers belongs q later × (seen_by r ≡ later ++ mark.Entered (numbered_on (entries_of later) y) ∷ []) × IsPlayed later in
-    let ent : P e = subst P c.step_of-step.ensures c.commit_entry.ensures.entered in
+    let ent : P e = subst P c.step_with-step.ensures.entry c.commit_entry.ensures.entered in
     let owns = still_owns p q c.args.number c.in-Ok-claim_place_by_turns.ensures.same c.requires.turns.owns in
     let b = behind_of p q r c.args.number _ e c.requires.turns.owns owns cl.between cl.grew cl.is ent.0 ent.1 ent.2 cl.played ent.3 in
     entered_turn c.args.wire.now p q r c.args.number _ e ent.0 b refl c.requires.turns.played c.in-Ok-claim_place_by_turns.ensures.played c.commit_entry.ensures.played c.requires.turns.some sc h allows tt
-    (step_used _ c.args.input step.records step.outs step.told (sym fits))
+    (step_used _ c.args.input step.records step.outs step.told refl)
     c.commit_entry.ensures.idle c.in-Ok-claim_place_by_turns.ensures.same c.commit_entry.ensures.same
 
 pub returns-in-Ok-write-clause-none_back : goal.returns-in-Ok-write-clause-none_back
@@ -151,9 +149,9 @@ returns-in-Ok-write-clause-none_back g c =
     let q = c.claim_place_by_turns.new.pass in
     let r = c.commit_entry.new.pass in
     let cl = c.in-Ok-claim_place_by_turns.ensures.claimed in
-    let e : Entry = entry_of_plan c.args.number c.args.input c.apply.result in
+    let e : Entry = entry_of_plan c.args.number c.args.input c.in-Ok.draft.plan.step in
     let P : Entry → Type 0 = λ y. (later : List Mark) × GrewByOthers belongs q later × (seen_by r ≡ later ++ mark.Entered (numbered_on (entries_of later) y) ∷ []) × IsPlayed later in
-    let ent : P e = subst P c.step_of-step.ensures c.commit_entry.ensures.entered in
+    let ent : P e = subst P c.step_with-step.ensures.entry c.commit_entry.ensures.entered in
     let owns = still_owns p q c.args.number c.in-Ok-claim_place_by_turns.ensures.same c.requires.turns.owns in
     let b = behind_of p q r c.args.number _ e c.requires.turns.owns owns cl.between cl.grew cl.is ent.0 ent.1 ent.2 cl.played ent.3 in
     entered_back c.args.number _ (seen_by p) (seen_by q) ent.0 (seen_by r) e b (omega arith)
@@ -168,13 +166,13 @@ returns-in-Ok-write-clause-ended g c =
     let made = draft_made sc h c.args.number c.args.site.now _ c.args.input d c.requires.up.stands c.in-Ok.ensures.ready in
     let due = taken_is_due sc h c.args.number c.args.input c.requires.turns.restless c.requires.due c.requires.takes in
     let cl = c.in-Ok-claim_place_by_turns.ensures.claimed in
-    let step : SiteStep = c.apply.result in
-    let is : step ≡ step_kept c.args.input (made_by sc h c.args.number c.args.input) = c.apply.ensures.step ∙ made.step_is in
+    let step : SiteStep = c.in-Ok.draft.plan.step in
+    let is : step ≡ step_kept c.args.input (made_by sc h c.args.number c.args.input) = made.step_is in
     let e : Entry = entry_of_plan c.args.number c.args.input step in
     let allows = step_allowed sc h c.args.number c.args.input step is c.requires.turns.some c.requires.up.up due in
     let r = c.commit_entry.new.pass in
     let P : Entry → Type 0 = λ y. (later : List Mark) × GrewByOthers belongs q later × (seen_by r ≡ later ++ mark.Entered (numbered_on (entries_of later) y) ∷ []) × IsPlayed later in
-    let ent : P e = subst P c.step_of-step.ensures c.commit_entry.ensures.entered in
+    let ent : P e = subst P c.step_with-step.ensures.entry c.commit_entry.ensures.entered in
     let owns = still_owns p q c.args.number c.in-Ok-claim_place_by_turns.ensures.same c.requires.turns.owns in
     let b = behind_of p q r c.args.number _ e c.requires.turns.owns owns cl.between cl.grew cl.is ent.0 ent.1 ent.2 cl.played ent.3 in
     let now = entries_of ent.0 in
@@ -184,12 +182,11 @@ returns-in-Ok-write-clause-ended g c =
     let here = made_meanwhile sc h now c.args.number c.args.input d m made in
     let all = entries c.args.number _ (seen_by p) (seen_by q) ent.0 (seen_by r) e b refl c.requires.turns.played c.in-Ok-claim_place_by_turns.ensures.played c.commit_entry.ensures.played in
     let more = history_seen r in
-    let entered = step_entered sc now more c.args.number c.args.input step (c.apply.ensures.step ∙ here.step_is) all in
+    let entered = step_entered sc now more c.args.number c.args.input step here.step_is all in
     let ready : StandsBy sc now c.args.number c.args.rose.now c.prepare_by_turns.new.site =
     record { alike = c.in-Ok.ensures.still.stands sc now c.args.number c.args.rose.now up.stands.alike; risen = up.stands.risen; order = up.stands.order } in
-    let fits : length step.outs ≡ length d.plan.step.outs = ap (λ (p : SiteStep). length p.outs) c.apply.ensures.step in
     let turned = entered_turn c.args.wire.now p q r c.args.number _ e ent.0 b refl c.requires.turns.played c.in-Ok-claim_place_by_turns.ensures.played c.commit_entry.ensures.played c.requires.turns.some sc h allows tt
-    (step_used _ c.args.input step.records step.outs step.told (sym fits))
+    (step_used _ c.args.input step.records step.outs step.told refl)
     c.commit_entry.ensures.idle c.in-Ok-claim_place_by_turns.ensures.same c.commit_entry.ensures.same in
     let keys = (keys_stay p r c.requires.turns.played turned.turned.seen).0 in
     let order : IsLogInOrder c.args.number (log_of sc (now ++ entry_of sc now c.args.number c.args.input ∷ []) c.args.number) =
@@ -213,13 +210,13 @@ returns-in-Ok-write-clause-ended g c =
       meanwhile = m;
       entered = entered;
       stands =
-          subst (λ (l : List Entry). IsUp g.D.Disk.meaning sc l c.args.number c.apply.new.self c.write.new.log c.args.rose.now c.write.new.logged) (sym entered)
-          (stepped_up g.D.Disk.meaning sc now c.args.number c.args.input c.apply.new.self c.write.new.log c.write.new.logged up.up
-          (site_on sc now c.args.number c.args.input c.prepare_by_turns.new.site c.apply.new.self d.plan.step ready here.step_is
-          (ap (λ (s : SiteView). s.weights) c.apply.ensures.done) (ap (λ (s : SiteView). s.site) c.apply.ensures.done) c.apply.ensures.stand order)
+          subst (λ (l : List Entry). IsUp g.D.Disk.meaning sc l c.args.number c.step_with-step.new.site c.write.new.log c.args.rose.now c.write.new.logged) (sym entered)
+          (stepped_up g.D.Disk.meaning sc now c.args.number c.args.input c.step_with-step.new.site c.write.new.log c.write.new.logged up.up
+          (site_on sc now c.args.number c.args.input c.prepare_by_turns.new.site c.step_with-step.new.site d.plan.step ready here.step_is
+          (ap (λ (s : SiteView). s.weights) c.step_with-step.ensures.done) (ap (λ (s : SiteView). s.site) c.step_with-step.ensures.done) c.step_with-step.ensures.stand order)
           logged c.in-Ok-write.ensures.lit
           (inputs_on sc now c.args.number c.args.input c.args.site.now.inputs _ up.inputs
-          (ap (λ (s : SiteView). s.inputs) c.apply.ensures.done ∙ ap (λ (s : SiteView). count_on s.inputs) c.in-Ok.ensures.still.same)));
+          (ap (λ (s : SiteView). s.inputs) c.step_with-step.ensures.done ∙ ap (λ (s : SiteView). count_on s.inputs) c.in-Ok.ensures.still.same)));
     }
 
 pub returns-in-Ok-claim_place_by_turns-clause-turned : goal.returns-in-Ok-claim_place_by_turns-clause-turned

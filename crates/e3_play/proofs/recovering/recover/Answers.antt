@@ -1,4 +1,4 @@
-use Rattle.std.proofs.Common.{◌≡◌, ◌∙◌, ◌++◌, ◌∷◌, [], ◌+◌, ◌≤◌, ℕ, zero, suc, get_or, List, length, drop, take, refl, sym, subst, ap, drop-cons, arith, rules}
+use Rattle.std.proofs.Common.{◌≡◌, ◌∙◌, ◌++◌, ◌∷◌, [], ◌+◌, ◌≤◌, ℕ, zero, suc, get_or, List, length, Err, drop, take, refl, sym, subst, ap, drop-cons, arith, rules}
 use Rattle.std.proofs.lemmas.Grind.{common_steps}
 use Rattle.std.proofs.lemmas.List.{take_more}
 use Rattle.e3_play.specs.Delivered.{IsFullBefore, IsPacketOrRound}
@@ -11,6 +11,8 @@ use Rattle.e3_world.specs.Progress.{Delivering}
 use Rattle.e3_play.specs.Reports.{HadTurns, IsTurn}
 use Rattle.e3_play.specs.Rounds.{AfterRound}
 use Rattle.e3_play.specs.declared.reporting.RoundReport.{RoundReport}
+use Rattle.e3_play.specs.declared.sites.RunFault.TheVariants.{HistoryFull}
+use Rattle.e3_play.proofs.Answered.{err_is, no_memory}
 use Rattle.e3_play.proofs.Onward.{goes_on, rests}
 use Rattle.e3_play.proofs.Falling.{UpOrFell, WereUp, listed_were_up}
 use Rattle.e3_play.proofs.Left.{first_due}
@@ -146,7 +148,8 @@ returns-in_err-report-clause-full g c = λ is.
     let S = g.S.Sites in
     let was = c.loop-round.invariant in
     let more = S.entries c.take_turn.new.sites in
-    let full : IsFullBefore IsPacketOrRound (S.scenario c.loop-round.sites) more (S.most c.loop-round.sites) = search rules in
+    let full : IsFullBefore IsPacketOrRound (S.scenario c.loop-round.sites) more (S.most c.loop-round.sites) =
+    c.in_err-report.ensures.full (ap Err (err_is c.from_residual-in_err-report.result c.in_err-report.field-0.0 HistoryFull c.from_residual-in_err-report.ensures.1 is)) in
     let P : Scenario → Type 0 = λ sc. IsFullBefore IsPacketOrRound sc more (S.most c.args.sites.now) in
     let Q : ℕ → Type 0 = λ most. IsFullBefore IsPacketOrRound (S.scenario c.loop-round.sites) more most in
     subst P was.on.scenario (subst Q was.on.most full)
@@ -158,3 +161,32 @@ returns-in_err-report-clause-grown g c =
 
 pub returns-in_err-rounds-clause-grown : goal.returns-in_err-rounds-clause-grown
 returns-in_err-rounds-clause-grown g c = stays_none (g.S.Sites.entries c.args.sites.now)
+
+pub listed-requires : goal.listed-requires
+listed-requires g c = record { standing = c.requires.standing }
+
+pub returns-in_err-rounds-clause-on : goal.returns-in_err-rounds-clause-on
+returns-in_err-rounds-clause-on g c = rests c.requires.standing
+
+pub returns-in_err-rounds-clause-full : goal.returns-in_err-rounds-clause-full
+returns-in_err-rounds-clause-full g c = λ is. absurd (no_memory c.from_residual.result c.from_residual.ensures.1 is)
+
+pub returns-in_err-report-clause-on : goal.returns-in_err-report-clause-on
+returns-in_err-report-clause-on g c = goes_on c.loop-round.invariant.on c.take_turn.ensures.on
+
+pub returns-in_err-push-clause-on : goal.returns-in_err-push-clause-on
+returns-in_err-push-clause-on g c = goes_on c.loop-round.invariant.on c.take_turn.ensures.on
+
+pub returns-in_err-push-clause-grown : goal.returns-in_err-push-clause-grown
+returns-in_err-push-clause-grown g c =
+    let S = g.S.Sites in
+    stays_on (S.entries c.args.sites.now) (S.entries c.loop-round.sites) (S.entries c.take_turn.new.sites) c.loop-round.invariant.grown c.take_turn.ensures.grown
+
+pub returns-in_err-push-clause-full : goal.returns-in_err-push-clause-full
+returns-in_err-push-clause-full g c = λ is. absurd (no_memory c.from_residual-in_err-push.result c.from_residual-in_err-push.ensures.1 is)
+
+pub returns-clause-on : goal.returns-clause-on
+returns-clause-on g c = c.loop-round.invariant.on
+
+pub returns-clause-grown : goal.returns-clause-grown
+returns-clause-grown g c = c.loop-round.invariant.grown

@@ -60,3 +60,8 @@ loop-worker-preserved g c =
           });
       later = unchanged_more c.args.workers.now c.loop-worker.workers c.loop-worker.worker-index _ i.later;
     }
+
+pub returns-clause-dealt : goal.returns-clause-dealt
+returns-clause-dealt g c = λ i d low.
+    let end = c.loop-worker-test.false in
+    c.loop-worker.invariant.dealt i d (omega (arith, low, end))

@@ -58,3 +58,18 @@ loop-worker-preserved g c =
       });
       later = unchanged_more c.args.workers.now c.loop-worker.workers k _ i.later;
     }
+
+pub returns-clause-all : goal.returns-clause-all
+returns-clause-all g c = λ o low.
+    let end = c.loop-worker-test.false in
+    c.loop-worker.invariant.owns o (omega (arith, low, end))
+
+pub returns-clause-each : goal.returns-clause-each
+returns-clause-each g c = λ i d low.
+    let end = c.loop-worker-test.false in
+    c.loop-worker.invariant.each i d (omega (arith, low, end))
+
+pub returns-clause-same : goal.returns-clause-same
+returns-clause-same g c = λ i d low.
+    let end = c.loop-worker-test.false in
+    c.loop-worker.invariant.same i d (omega (arith, low, end))

@@ -9,6 +9,21 @@ use Rattle.e3_fleet.proofs.crew.Packets.{can_take, still_delivering}
 use Rattle.e3_fleet.proofs.crew.Rounding.{Round, crew_again, gone_on}
 use Rattle.e3_fleet.proofs.crew.rounds.packet_round.Goals as goal
 
+pub deal-requires-clause-idle : goal.deal-requires-clause-idle
+deal-requires-clause-idle g c = c.requires.crew.idle
+
+pub deal-requires-clause-all : goal.deal-requires-clause-all
+deal-requires-clause-all g c = c.requires.crew.all
+
+pub deal-requires-clause-last : goal.deal-requires-clause-last
+deal-requires-clause-last g c = c.requires.crew.last
+
+pub gather-requires-clause-idle : goal.gather-requires-clause-idle
+gather-requires-clause-idle g c = c.deal.ensures.idle
+
+pub gather-requires-clause-driver : goal.gather-requires-clause-driver
+gather-requires-clause-driver g c = c.deal.ensures.driver
+
 pub deal-requires-clause-sites : goal.deal-requires-clause-sites
 deal-requires-clause-sites g c i d low = (c.requires.crew.each i d low).site
 

@@ -26,3 +26,13 @@ returns-in_err-items-clause-same g c =
     let k = c.loop-worker.worker-index in
     λ j d low. kept_at (λ (z : Worker g.row.D.Denot). z.node) c.args.workers.now c.loop-worker.workers k _ lt (λ (n : ℕ) (e : Worker g.row.D.Denot) less. (i.handed n e less).node) i.later
     (λ e. ap (λ (z : Worker g.row.D.Denot). z.node) (same_member c.args.workers.now c.loop-worker.workers k e c.worker-item.result lt i.later)) j d
+
+pub returns-clause-same : goal.returns-clause-same
+returns-clause-same g c = λ i d low.
+    let end = c.loop-worker-test.false in
+    (c.loop-worker.invariant.handed i d (omega (arith, low, end))).node
+
+pub returns-clause-items : goal.returns-clause-items
+returns-clause-items g c = λ i d low.
+    let end = c.loop-worker-test.false in
+    (c.loop-worker.invariant.handed i d (omega (arith, low, end))).items

@@ -1,3 +1,4 @@
+use Rattle.std.proofs.Common.{arith}
 use Rattle.e3_fleet.proofs.crew.Taking.{through_worked}
 use Rattle.e3_fleet.proofs.crew.Turning.{worked_none, worked_on}
 use Rattle.e3_turn.specs.Passes.{seen_by}
@@ -21,3 +22,36 @@ returns-in_err-give_few-clause-worked g c =
 pub returns-in_err-memory-clause-worked : goal.returns-in_err-memory-clause-worked
 returns-in_err-memory-clause-worked g c =
     worked_none g.D.Disk.meaning (seen_by c.args.pass.now) c.args.node.now c.requires.knows
+
+pub next_packets-requires-clause-pass : goal.next_packets-requires-clause-pass
+next_packets-requires-clause-pass g c = c.requires.pass
+
+pub next_packets-requires-clause-knows : goal.next_packets-requires-clause-knows
+next_packets-requires-clause-knows g c = c.requires.knows
+
+pub give_few-requires-clause-pass : goal.give_few-requires-clause-pass
+give_few-requires-clause-pass g c = c.next_packets.ensures.pass
+
+pub give_few-requires-clause-knows : goal.give_few-requires-clause-knows
+give_few-requires-clause-knows g c = c.in_ok-few.ensures.promised.knows
+
+pub returns-in_err-few-clause-worked : goal.returns-in_err-few-clause-worked
+returns-in_err-few-clause-worked g c = c.in_err-few.ensures.kept
+
+pub returns-in_err-few-clause-pass : goal.returns-in_err-few-clause-pass
+returns-in_err-few-clause-pass g c = c.next_packets.ensures.pass
+
+pub returns-in_err-give_few-clause-pass : goal.returns-in_err-give_few-clause-pass
+returns-in_err-give_few-clause-pass g c = c.give_few.ensures.pass
+
+pub returns-clause-pass : goal.returns-clause-pass
+returns-clause-pass g c = c.give_few.ensures.pass
+
+pub give_few-requires-clause-empty : goal.give_few-requires-clause-empty
+give_few-requires-clause-empty g c = c.in_ok-memory.ensures.empty
+
+pub give_few-requires-clause-enough : goal.give_few-requires-clause-enough
+give_few-requires-clause-enough g c =
+    let few = c.in_ok-few.ensures.few in
+    let enough = c.in_ok-memory.ensures.enough in
+    omega (arith, few, enough)

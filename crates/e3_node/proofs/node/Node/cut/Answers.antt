@@ -1,4 +1,4 @@
-use Rattle.std.proofs.Common.{◌≡◌, ◌≤◌, ap, subst, sym, true, List, arith}
+use Rattle.std.proofs.Common.{◌≡◌, ◌≤◌, ap, ◌∙◌, subst, sym, true, List, arith}
 use Rattle.e3_disk.specs.Meters.{Meters}
 use Rattle.e3_node.specs.NodeStands.{IsIn}
 use Rattle.e3_node.specs.NodeView.{NodeView}
@@ -53,3 +53,16 @@ returns-clause-stands g c =
     has.on.scenario
     (subst (λ (x : NodeView _). IsIn g.D.Disk.meaning sc more x.site state) c.self.view_is behind)
     (ap (λ (x : NodeView _). let n : NodeView _ = record { site = x.site; weights = x.weights; rows = x.rows; state = state } in n) c.self.view_is)
+
+pub returns-clause-shared : goal.returns-clause-shared
+returns-clause-shared g c = (c.enter.ensures c.args.shared.now 0 c.in_ok-claim.ensures.claimed).on
+
+pub returns-clause-down : goal.returns-clause-down
+returns-clause-down g c =
+    let was = c.args.shared.now in
+    let up : is_up_at (entries_of was) c.args.self.now.site ≡ true = sym (c.if-not-is_up.ensures.stands (scenario_of was) (entries_of was) c.requires.standing) in
+    (λ is. absurd cc, λ no. absurd (let both = sym up ∙ no in cc))
+
+pub returns-clause-full : goal.returns-clause-full
+returns-clause-full g c = λ up.
+    (λ is. absurd cc, λ all. absurd (let full = c.in_ok-claim.ensures.full.1 all in cc))

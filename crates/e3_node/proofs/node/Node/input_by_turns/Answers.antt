@@ -1,16 +1,20 @@
-use Rattle.std.proofs.Common.{◌≡◌, ◌≤◌, ◌++◌, ◌∷◌, [], ap, subst, sym}
-use Rattle.e3_node.specs.Ends.{HasRoomBehind, IsOneFrame, OnLogs}
+use Rattle.std.proofs.Common.{◌≡◌, ◌≤◌, ◌++◌, ◌∷◌, ◌∙◌, [], ap, refl, subst, sym, List}
+use Rattle.e3_node.specs.Ends.{FellOver, HasRoomBehind, IsOneFrame, OnLogs, is_fall}
 use Rattle.e3_node.specs.NodeStands.{IsIn}
+use Rattle.e3_node.specs.Places.{HasGivenNoneBack}
 use Rattle.e3_node.specs.NodeView.{NodeView, disk_of}
+use Rattle.e3_node.specs.declared.fault.InputFault.TheVariants as input_fault
 use Rattle.e3_node.specs.Turns.{HasKeptPromises, Meanwhile, history_seen, scenario_seen}
 use Rattle.e3_node.specs.site_log.Ends.{Takes, calls_for}
+use Rattle.e3_types.specs.declared.entries.Entry.{Entry}
 use Rattle.e3_types.specs.declared.entries.Why.TheVariants.{Fault}
 use Rattle.e3_turn.specs.Passes.{Owns, seen_by}
 use Rattle.e3_wire.specs.Marks.{last_owner}
 use Rattle.e3_world.specs.Legal.{entry_of, made_by}
 use Rattle.e3_world.specs.Moves.{log_of}
 use Rattle.e3_node.proofs.Steps.{node_with}
-use Rattle.e3_node.proofs.InputsByTurns.{in_told}
+use Rattle.e3_node.proofs.Inside.{disk_shown, down_shown, keeps_shown, reason_shown}
+use Rattle.e3_node.proofs.InputsByTurns.{disk_told, fell_told, in_told, kept_told}
 use Rattle.e3_node.proofs.Waiting.{keys_stay}
 use Rattle.e3_node.proofs.node.Node.input_by_turns.Goals as goal
 
@@ -98,3 +102,78 @@ returns-in-Err-clause-stands g c =
     (keys_stay p q c.requires.turns.played c.take_by_turns.ensures.turned.turned.seen).0
     (subst (λ (x : NodeView _). IsIn g.D.Disk.meaning sc more x.site c.settle.new.state) c.self.view_is told)
     (ap (λ (x : NodeView _). let n : NodeView _ = record { site = x.site; weights = x.weights; rows = x.rows; state = c.settle.new.state } in n) c.self.view_is)
+
+pub returns-in-Ok-clause-none_back : goal.returns-in-Ok-clause-none_back
+returns-in-Ok-clause-none_back g c =
+    subst (λ (x : NodeView _). HasGivenNoneBack x.site (seen_by c.args.pass.now) (seen_by c.take_by_turns.new.pass)) c.self.view_is c.take_by_turns.ensures.none_back
+
+pub returns-in-Ok-clause-fell : goal.returns-in-Ok-clause-fell
+returns-in-Ok-clause-fell g c = λ why is. absurd cc
+
+pub returns-in-Ok-clause-down : goal.returns-in-Ok-clause-down
+returns-in-Ok-clause-down g c = down_shown _ _ c.self.view_is (history_seen c.args.pass.now) c.in-Ok.ensures.down
+
+pub returns-in-Ok-clause-full : goal.returns-in-Ok-clause-full
+returns-in-Ok-clause-full g c = λ is. absurd cc
+
+pub returns-in-Ok-clause-kept : goal.returns-in-Ok-clause-kept
+returns-in-Ok-clause-kept g c = λ fault is none. absurd cc
+
+pub returns-in-Ok-clause-why : goal.returns-in-Ok-clause-why
+returns-in-Ok-clause-why g c = λ why is. absurd cc
+
+pub returns-in-Ok-clause-room : goal.returns-in-Ok-clause-room
+returns-in-Ok-clause-room g c = λ why is fits. absurd cc
+
+pub returns-in-Ok-clause-meters : goal.returns-in-Ok-clause-meters
+returns-in-Ok-clause-meters g c = keeps_shown _ _ c.self.view_is g.D.Disk.meaning.meters c.take_by_turns.new.state c.take_by_turns.new.state refl c.take_by_turns.ensures.keeps
+
+pub returns-in-Err-clause-none_back : goal.returns-in-Err-clause-none_back
+returns-in-Err-clause-none_back g c =
+    subst (λ (x : NodeView _). HasGivenNoneBack x.site (seen_by c.args.pass.now) (seen_by c.take_by_turns.new.pass)) c.self.view_is c.take_by_turns.ensures.none_back
+
+pub returns-in-Err-clause-fell : goal.returns-in-Err-clause-fell
+returns-in-Err-clause-fell g c = λ why is.
+    let sc = scenario_seen c.args.pass.now in
+    let h = history_seen c.args.pass.now in
+    let more = history_seen c.take_by_turns.new.pass in
+    let same : c.in-Err.fault ≡ input_fault.Fell why = cc in
+    subst (λ (x : NodeView _). (now : List Entry) × Meanwhile x.site h now × FellOver sc now x.site c.args.input why more) c.self.view_is
+    (fell_told g.D.Disk.meaning sc h more c.self.inside.site c.args.input c.self.inside.state c.take_by_turns.new.state c.in-Err.fault c.in-Err.ensures.ended why same)
+
+pub returns-in-Err-clause-down : goal.returns-in-Err-clause-down
+returns-in-Err-clause-down g c = down_shown _ _ c.self.view_is (history_seen c.args.pass.now) c.in-Err.ensures.down
+
+pub returns-in-Err-clause-full : goal.returns-in-Err-clause-full
+returns-in-Err-clause-full g c = c.in-Err.ensures.full
+
+pub returns-in-Err-clause-kept : goal.returns-in-Err-clause-kept
+returns-in-Err-clause-kept g c = λ fault is none.
+    let sc = scenario_seen c.args.pass.now in
+    let h = history_seen c.args.pass.now in
+    let more = history_seen c.take_by_turns.new.pass in
+    let same = disk_told g.D.Disk.meaning sc h more c.self.inside.site c.args.input c.self.inside.state c.take_by_turns.new.state
+    c.in-Err.fault c.settle.new.state c.settle.ensures.fell c.settle.ensures.kept in
+    let one : c.in-Err.fault ≡ fault = cc in
+    let kept = kept_told g.D.Disk.meaning sc h more c.self.inside.site c.args.input c.self.inside.state c.take_by_turns.new.state c.in-Err.fault c.in-Err.ensures.ended (ap is_fall one ∙ none) in (
+      subst (λ (x : NodeView _). Meanwhile x.site h more) c.self.view_is kept.0,
+      disk_shown _ _ c.self.view_is c.take_by_turns.new.state c.settle.new.state same kept.1,
+    )
+
+pub returns-in-Err-clause-why : goal.returns-in-Err-clause-why
+returns-in-Err-clause-why g c = λ why is.
+    let sc = scenario_seen c.args.pass.now in
+    let h = history_seen c.args.pass.now in
+    let more = history_seen c.take_by_turns.new.pass in
+    let same = disk_told g.D.Disk.meaning sc h more c.self.inside.site c.args.input c.self.inside.state c.take_by_turns.new.state
+    c.in-Err.fault c.settle.new.state c.settle.ensures.fell c.settle.ensures.kept in
+    reason_shown _ _ c.self.view_is g.D.Disk.meaning.meters c.take_by_turns.new.state c.settle.new.state same sc h c.args.input why (c.in-Err.ensures.why why is)
+
+pub returns-in-Err-clause-meters : goal.returns-in-Err-clause-meters
+returns-in-Err-clause-meters g c =
+    let sc = scenario_seen c.args.pass.now in
+    let h = history_seen c.args.pass.now in
+    let more = history_seen c.take_by_turns.new.pass in
+    let same = disk_told g.D.Disk.meaning sc h more c.self.inside.site c.args.input c.self.inside.state c.take_by_turns.new.state
+    c.in-Err.fault c.settle.new.state c.settle.ensures.fell c.settle.ensures.kept in
+    keeps_shown _ _ c.self.view_is g.D.Disk.meaning.meters c.take_by_turns.new.state c.settle.new.state same c.take_by_turns.ensures.keeps

@@ -1,9 +1,9 @@
-use Rattle.std.proofs.Common.{◌≡◌, ◌⊎◌, inl, inr, ◌+◌, [], ℕ, List, Option, subst, arith}
-use Rattle.e3_node.specs.site_log.Bodies.{ReadsLeft}
+use Rattle.std.proofs.Common.{◌≡◌, ◌⊎◌, inl, inr, ◌+◌, ◌++◌, [], ℕ, List, Option, subst, arith}
+use Rattle.e3_node.specs.site_log.Bodies.{IsLogged, ReadsLeft}
 use Rattle.e3_node.specs.site_log.Ends.{HasRoom, HasRoomUnlessShort, IsShortIf, size_of}
 use Rattle.e3_node.specs.declared.site_log.writing.Short.{Short}
-use Rattle.e3_node.proofs.site_log.Reasons.{empty_end, if_err, reason_add}
-use Rattle.e3_node.proofs.site_log.Writes.{left_later}
+use Rattle.e3_node.proofs.site_log.Reasons.{empty_end, if_err, on_ok, reason_add}
+use Rattle.e3_node.proofs.site_log.Writes.{left_later, logged_later}
 use Rattle.e3_types.specs.declared.records.Record.{Record}
 use Rattle.e3_node.proofs.site_log.writing.write.Goals as goal
 
@@ -44,3 +44,27 @@ pub returns-else-fits-clause-reason : goal.returns-else-fits-clause-reason
 returns-else-fits-clause-reason g c = λ site most l was is due.
     let P = IsShortIf site l in
     c.turn_and_add.ensures.reason site most l was (subst P c.in-Some.is is) tt
+
+pub returns-in-None-clause-logged : goal.returns-in-None-clause-logged
+returns-in-None-clause-logged g c = λ site most l was is orderly back.
+    let m = g.D.Disk.meaning in
+    let all = l ++ c.args.records.now in
+    on_ok {A = IsLogged m site most all c.add.new.logged c.add.new.log} {B = IsLogged m site (most + 1) all c.add.new.logged c.add.new.log}
+    c.add.result (λ has. logged_later m site most all (most + 1) c.add.new.logged c.add.new.log (omega arith) has) (c.add.ensures.logged site most l was orderly back)
+
+pub returns-then-fits-clause-logged : goal.returns-then-fits-clause-logged
+returns-then-fits-clause-logged g c = λ site most l was is orderly back.
+    let m = g.D.Disk.meaning in
+    let all = l ++ c.args.records.now in
+    on_ok {A = IsLogged m site most all c.add-then-fits.new.logged c.add-then-fits.new.log} {B = IsLogged m site (most + 1) all c.add-then-fits.new.logged c.add-then-fits.new.log}
+    c.add-then-fits.result (λ has. logged_later m site most all (most + 1) c.add-then-fits.new.logged c.add-then-fits.new.log (omega arith) has) (c.add-then-fits.ensures.logged site most l was orderly back)
+
+pub returns-else-fits-clause-logged : goal.returns-else-fits-clause-logged
+returns-else-fits-clause-logged g c = λ site most l was is orderly back.
+    let P = IsShortIf site l in
+    c.turn_and_add.ensures.logged site most l was (subst P c.in-Some.is is) orderly back
+
+pub returns-else-fits-clause-left : goal.returns-else-fits-clause-left
+returns-else-fits-clause-left g c = λ site most l was is orderly back.
+    let P = IsShortIf site l in
+    c.turn_and_add.ensures.left site most l was (subst P c.in-Some.is is) orderly back

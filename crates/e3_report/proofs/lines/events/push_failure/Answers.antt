@@ -5,4 +5,4 @@ use Rattle.e3_report.proofs.lines.events.push_failure.Goals as goal
 
 pub returns : goal.returns
 unfolding failure_text
-returns c = rw (c.in_ok-push_why.ensures, c.in_ok-push_text.ensures, c.in_ok-push_labelled.ensures) (simp append_assoc)
+returns c = rw (c.in_ok-push_word_and_why.ensures, c.in_ok-push_labelled.ensures) (simp append_assoc)

@@ -10,7 +10,7 @@ use Rattle.e3_places.specs.Noting.{cast_more}
 use Rattle.e3_places.proofs.Logged.{vote_put}
 use Rattle.e3_places.proofs.Putting.{names_turned}
 use Rattle.e3_places.proofs.Turning.{put_at}
-use Rattle.e3_places.proofs.noting.add_vote.Goals as goal
+use Rattle.e3_places.proofs.noting.put_vote.Goals as goal
 
 pub returns-in-Some : goal.returns-in-Some
 returns-in-Some c =

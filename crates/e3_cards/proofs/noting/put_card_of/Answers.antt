@@ -1,6 +1,6 @@
 use Rattle.std.proofs.lemmas.Result.{on_ok_weaker}
 use Rattle.e3_cards.proofs.Logged.{put_at}
-use Rattle.e3_cards.proofs.noting.put_of.Goals as goal
+use Rattle.e3_cards.proofs.noting.put_card_of.Goals as goal
 
 pub returns : goal.returns
 returns c =
