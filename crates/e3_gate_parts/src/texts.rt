@@ -1,6 +1,6 @@
-// Words of the input, and what cases of several parts print. The page remembers it where memory is lacking for what is read. A line of cases has pieces between bars: a piece behind `=` is printed
-// as it stands, a piece `/` ends a line of the output, and each other piece says what is
-// done: its first letter tells it from others.
+// Words of the input, and what cases of several parts print. The page remembers it where memory is lacking for what is read. A line
+// of cases has pieces between bars: a piece behind `=` is printed as it stands, a piece `/` ends a line of the output, and each
+// other piece says what is done: its first letter tells it from others.
 use e3_report::Page;
 use e3_types::{List, NoMemory, SiteSet, State, Txn};
 use std::alloc::Global;

@@ -8,7 +8,7 @@ ghost use Rattle.e3_gen.specs.Generated.{step_of};
 ghost use Rattle.e3_gen.specs.Items.{five, txn_name, coordinator, sites_of, fellow, key_of, operations, cut_off, crashed, stopped, last_items, items_at, items_of};
 
 use crate::draws::{RecordWords, TxnWords};
-use e3_report::lines::{push_number, push_text};
+use e3_report::Page;
 use e3_types::{Item, Key, Leave, List, Name, NoMemory, SiteSet, Val};
 use std::alloc::Global;
 
@@ -22,9 +22,9 @@ fn numbered(alloc: Global, letter: &str, number: u32) -> Result<Name, NoMemory>
     requires letter { list_all is_letter letter.now ≡ true }
     ensures { IfOk result (λ name. name ≡ letter.now ++ decimal number) }
 {
-    let mut text = List::new(alloc);
-    push_text(&mut text, letter)?;
-    push_number(&mut text, number as u64)?;
+    let mut page = Page::new(alloc);
+    page.labelled(letter, number as u64);
+    let text = page.done().ok_or(NoMemory)?;
     Ok(Name::new(text.as_slice()).unwrap())
 }
 
@@ -33,8 +33,9 @@ fn numbered(alloc: Global, letter: &str, number: u32) -> Result<Name, NoMemory>
 fn value_of(alloc: Global, number: u32) -> Result<Val, NoMemory>
     ensures { IfOk result (λ val. val ≡ decimal number) }
 {
-    let mut text = List::new(alloc);
-    push_number(&mut text, number as u64)?;
+    let mut page = Page::new(alloc);
+    page.number(number as u64);
+    let text = page.done().ok_or(NoMemory)?;
     Ok(Val::new(text.as_slice()).unwrap())
 }
 

@@ -1,12 +1,13 @@
 // The generated scenario of a number.
-ghost use Rattle.std.specs.Prelude.{◌≡◌, ◌≤◌, ◌++◌, IfOk, OnOk, map};
+ghost use Rattle.std.specs.Prelude.{◌≡◌, ◌≤◌, IfOk, map};
 ghost use Rattle.std.specs.List.{flat_map};
 ghost use Rattle.e3_gen.specs.Generated.{items_to, step_of, generated_scenario, before_luck, behind_luck, head_lines, item_row, generated};
+ghost use Rattle.e3_report.specs.Pages.{Adds};
 ghost use Rattle.e3_world.specs.Given.{IsGiven};
 
 use crate::draws::{draw_txn, generator_of};
 use crate::items::{Steps, add_txn};
-use e3_report::lines::{push_item, push_number, push_text};
+use e3_report::Page;
 use e3_types::{Item, List, NoMemory, Scenario};
 use std::alloc::Global;
 
@@ -45,52 +46,50 @@ pub fn generated_scenario(alloc: Global, n: u32) -> Result<Scenario, NoMemory>
 }
 
 #[tactic(auto, unfolding(crate::specs::Generated::before_luck))]
-fn push_before_luck(out: &mut List<u8>) -> Result<(), NoMemory>
-    ensures { OnOk result (out.new ≡ out.old ++ before_luck) }
+fn push_before_luck(page: &mut Page)
+    ensures { Adds page.old page.new before_luck }
 {
-    push_text(out, "weights = [1, 1, 1, 1, 1]\nrepeat = 20\nluck = ")
+    page.text("weights = [1, 1, 1, 1, 1]\nrepeat = 20\nluck = ");
 }
 
 #[tactic(auto, unfolding(crate::specs::Generated::behind_luck))]
-fn push_behind_luck(out: &mut List<u8>) -> Result<(), NoMemory>
-    ensures { OnOk result (out.new ≡ out.old ++ behind_luck) }
+fn push_behind_luck(page: &mut Page)
+    ensures { Adds page.old page.new behind_luck }
 {
-    push_text(out, "\nsteps = [\n")
+    page.text("\nsteps = [\n");
 }
 
-fn push_head(out: &mut List<u8>, n: u32) -> Result<(), NoMemory>
-    ensures { OnOk result (out.new ≡ out.old ++ head_lines n) }
+fn push_head(page: &mut Page, n: u32)
+    ensures { Adds page.old page.new (head_lines n) }
 {
-    push_before_luck(out)?;
-    push_number(out, n as u64)?;
-    push_behind_luck(out)
+    push_before_luck(page);
+    page.number(n as u64);
+    push_behind_luck(page);
 }
 
 #[tactic(auto, unfolding(crate::specs::Generated::item_row))]
-fn push_item_row(out: &mut List<u8>, item: &Item) -> Result<(), NoMemory>
-    ensures { OnOk result (out.new ≡ out.old ++ item_row item.now) }
+fn push_item_row(page: &mut Page, item: &Item)
+    ensures { Adds page.old page.new (item_row item.now) }
 {
-    push_text(out, "  \"")?;
-    push_item(out, item)?;
-    push_text(out, "\",\n")
+    page.text("  \"");
+    page.item(item);
+    page.text("\",\n");
 }
 
-fn push_step(out: &mut List<u8>, items: &[Item]) -> Result<(), NoMemory>
-    ensures { OnOk result (out.new ≡ out.old ++ flat_map item_row items.now) }
+fn push_step(page: &mut Page, items: &[Item])
+    ensures { Adds page.old page.new (flat_map item_row items.now) }
 {
     for item in items {
-        push_item_row(out, item)?;
+        push_item_row(page, item);
     }
-    Ok(())
 }
 
-fn push_steps(out: &mut List<u8>, steps: &[List<Item>]) -> Result<(), NoMemory>
-    ensures { OnOk result (out.new ≡ out.old ++ flat_map (flat_map item_row) steps.now) }
+fn push_steps(page: &mut Page, steps: &[List<Item>])
+    ensures { Adds page.old page.new (flat_map (flat_map item_row) steps.now) }
 {
     for items in steps {
-        push_step(out, items.as_slice())?;
+        push_step(page, items.as_slice());
     }
-    Ok(())
 }
 
 /// The text of the generated scenario of a number. Want of memory is the only error.
@@ -101,9 +100,9 @@ pub fn generated(alloc: Global, n: u32) -> Result<List<u8>, NoMemory>
     ensures { IfOk result (λ text. text ≡ generated n) }
 {
     let steps = steps_of(alloc, n)?;
-    let mut out = List::new(alloc);
-    push_head(&mut out, n)?;
-    push_steps(&mut out, steps.as_slice())?;
-    push_text(&mut out, "]\n")?;
-    Ok(out)
+    let mut page = Page::new(alloc);
+    push_head(&mut page, n);
+    push_steps(&mut page, steps.as_slice());
+    page.text("]\n");
+    page.done().ok_or(NoMemory)
 }

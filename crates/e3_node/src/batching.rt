@@ -1,5 +1,5 @@
 // Several packets of a site that is up, by its worker: their steps have one frame.
-// Why what it owns is handed to `drop`: docs/DECISIONS.md, "What owns much is handed to `drop`".
+// Why what a function owns is handed to `drop`: docs/DECISIONS.md, "What owns much is handed to `drop`".
 ghost use Rattle.std.specs.Prelude.{◌≡◌, ◌≤◌, ◌<◌, ◌+◌, ◌^◌, ◌++◌, ◌∷◌, [], None, true, false, ℕ, length, take, vec_capacity, IfOk, IfSome, OnOk, OnErr, List as Items};
 ghost use Rattle.e3_site.specs.StandsAlike.{IsLogInOrder, StandsAlike};
 ghost use Rattle.e3_node.specs.Batched.{AreAdded, BatchAt, HasNoMoreRoom, HasPlanned, IsBatchAt, IsLonger, OnlyForMemory, TakesNoMore, first_of};

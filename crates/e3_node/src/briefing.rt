@@ -1,5 +1,5 @@
 // The short log that a log is turned to, where a frame has no room behind it.
-// Why what it owns is handed to `drop`: docs/DECISIONS.md, "What owns much is handed to `drop`".
+// Why what a function owns is handed to `drop`: docs/DECISIONS.md, "What owns much is handed to `drop`".
 ghost use Rattle.std.specs.Prelude.{◌≡◌, ◌≢◌, ◌≤◌, ◌<◌, [], ℕ, false, length, take, List as Items, IfOk, IsSome, Some as Given, None, Ok, Err};
 ghost use Rattle.std.specs.List.{AllByRecursion as Each};
 ghost use Rattle.e3_world.specs.Brief.{brief};

@@ -1,5 +1,5 @@
 // A step that is ready to be made.
-// Why what it owns is handed to `drop`: docs/DECISIONS.md, "What owns much is handed to `drop`".
+// Why what a function owns is handed to `drop`: docs/DECISIONS.md, "What owns much is handed to `drop`".
 ghost use Rattle.std.specs.Prelude.{◌≡◌, ◌<◌, IfOk, length};
 ghost use Rattle.e3_node.specs.Drafts.{IsAsBefore, IsDraft, IsReady};
 ghost use Rattle.e3_site.specs.SiteView.{Stands};

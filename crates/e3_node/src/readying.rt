@@ -1,5 +1,5 @@
 // A rise that is ready to be made.
-// Why what it owns is handed to `drop`: docs/DECISIONS.md, "What owns much is handed to `drop`".
+// Why what a function owns is handed to `drop`: docs/DECISIONS.md, "What owns much is handed to `drop`".
 ghost use Rattle.std.specs.Prelude.{◌≡◌, ◌≤◌, ◌<◌, ◌^◌, ◌↔◌, suc, length, Err, IfOk, OnOk, OnErr};
 ghost use Rattle.e3_log.specs.Found.{bodies_of};
 ghost use Rattle.e3_node.specs.Rising.{IsForeign, IsReady, IsWish, NextIsCounted, born_by, records_by};

@@ -1,5 +1,5 @@
 // An input of a site that is up.
-// Why what it owns is handed to `drop`: docs/DECISIONS.md, "What owns much is handed to `drop`".
+// Why what a function owns is handed to `drop`: docs/DECISIONS.md, "What owns much is handed to `drop`".
 ghost use Rattle.std.specs.Prelude.{◌≡◌, ◌≢◌, ◌^◌, ◌<◌, ◌≤◌, ◌++◌, ◌∷◌, ◌↔◌, [], true, false, length, IfOk, OnOk, OnErr, Err, List as Items};
 ghost use Rattle.e3_disk.specs.Meters.{Keeps};
 ghost use Rattle.e3_node.specs.Bodies.{DiskTells};

@@ -24,10 +24,10 @@ sites_same sc h (s ∷ sites) =
     ∙ ap (λ l. site_lines sc h s ++ l) (sites_same sc h sites)
 
 -- the report that is read off the records of a walk
-pub report_walked : (sc : Scenario) (h : List Entry) (placed : List Placed) (none whole : List ℕ) →
-    placed ≡ (walk_of sc h).placed → none ≡ [] → whole ≡ none ++ report_by sc h placed → whole ≡ report_without_trace sc h
+pub report_walked : (sc : Scenario) (h : List Entry) (placed : List Placed) → placed ≡ (walk_of sc h).placed →
+    report_by sc h placed ≡ report_without_trace sc h
 unfolding report_by
-report_walked sc h placed none whole gathered empty made =
-    made ∙ ap (λ l. l ++ report_by sc h placed) empty ∙ ap (report_by sc h) (gathered ∙ walk_placed sc h)
+report_walked sc h placed gathered =
+    ap (report_by sc h) (gathered ∙ walk_placed sc h)
     ∙ ap (λ l. start_lines sc h ++ steps_after sc [] h ++ order_lines (all_records (trail_of sc h)) ++ l ++ codes "end" ++ line_end)
     (sites_same sc h (all_sites sc))

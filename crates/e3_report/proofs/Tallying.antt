@@ -91,9 +91,8 @@ begins_counted history =
     ap length (of_each (λ e. flat_map begun_by (events_of e.act)) [] history) ∙ counted_once (flat_map (λ e. flat_map begun_by (events_of e.act)) history)
 
 -- the summary over what is counted of the records that a walk gathered is that of the history
-pub summary_walked : (n ended stopped started : ℕ) (sc : Scenario) (h : List Entry) (placed : List Placed) (none text : List ℕ) → placed ≡ (walk_of sc h).placed →
+pub summary_walked : (n ended stopped started : ℕ) (sc : Scenario) (h : List Entry) (placed : List Placed) → placed ≡ (walk_of sc h).placed →
     ended ≡ committed placed → stopped ≡ aborted placed → started ≡ begun h →
-    none ≡ [] → text ≡ none ++ summary_with n ended stopped started h → text ≡ summary_of n sc h
-summary_walked n ended stopped started sc h placed none text gathered e s b empty made =
-    made
-    ∙ rw (e, s, b, empty) (ap (λ (records : List Placed). summary_over n records h) (gathered ∙ walk_placed sc h))
+    summary_with n ended stopped started h ≡ summary_of n sc h
+summary_walked n ended stopped started sc h placed gathered e s b =
+    rw (e, s, b) (ap (λ (records : List Placed). summary_over n records h) (gathered ∙ walk_placed sc h))

@@ -1,40 +1,20 @@
-// What a program of the gate prints, part by part: a text that grows, and remembers whether memory was lacking for any of it. So
-// what adds to it answers nothing, and only its end asks.
-ghost use Rattle.std.specs.Prelude.{◌≡◌, ◌↔◌, ◌++◌, [], true, false, IfSome, IsOk, None};
+// A text that grows, and remembers whether memory was lacking for any of it. So what adds to it answers nothing, and only its end
+// asks. Reports are made so, and what a program of the gate prints, part by part.
+ghost use Rattle.std.specs.Prelude.{◌≡◌, ◌↔◌, ◌++◌, [], true, false, IfSome, None};
 ghost use Rattle.std.specs.Fmt.{decimal};
-ghost use Rattle.std.specs.List.{flat_map};
-ghost use Rattle.e3_report.specs.lines.Events.{answer_text, told_text};
-ghost use Rattle.e3_report.specs.lines.Entries.{trace_of};
-ghost use Rattle.e3_report.specs.lines.Items.{item_line};
-ghost use Rattle.e3_report.specs.lines.Records.{record_lines, row_line};
-ghost use Rattle.e3_report.specs.lines.Texts.{dir_text, key_text, sites_text, state_text, txn_text};
+ghost use Rattle.e3_report.specs.lines.Texts.{line_end};
 ghost use Rattle.e3_report.specs.Pages.{Adds, Reads};
 
 mod programs;
 
-use crate::lines::{
-    push_answer, push_dir, push_items, push_key, push_labelled, push_records, push_rows,
-    push_sites, push_state, push_told_text, push_trace, push_txn,
-};
-use e3_types::{
-    Answer, Dir, Entry, Item, Key, List, NoMemory, Record, Row, SiteSet, State, Told, Txn,
-};
+use e3_types::List;
 use std::alloc::Global;
 
-/// What is printed.
+/// A text that grows.
 #[derive(Drop)]
 pub struct Page {
     text: List<u8>,
     is_whole: bool,
-}
-
-// Remembers it where memory was lacking for what was added.
-fn remember_lack(is_whole: &mut bool, added: Result<(), NoMemory>)
-    ensures { is_whole.new ≡ true → (is_whole.old ≡ true) × IsOk added }
-{
-    if added.is_err() {
-        *is_whole = false;
-    }
 }
 
 impl Page {
@@ -82,7 +62,9 @@ impl Page {
     pub fn bytes(&mut self, bytes: &[u8])
         ensures { Adds self.old self.new bytes.now }
     {
-        remember_lack(&mut self.is_whole, self.text.extend(bytes));
+        if self.is_whole {
+            self.is_whole = self.text.extend(bytes).is_ok();
+        }
     }
 
     /// Adds a text.
@@ -103,93 +85,40 @@ impl Page {
         }
     }
 
+    /// Adds a number in decimal digits.
+    #[tactic(auto, using(std::proofs::lemmas::Fmt::decimal_digit, std::proofs::lemmas::Fmt::decimal_step, crate::proofs::lines::Appends::join_two))]
+    pub fn number(&mut self, number: u64)
+        ensures { Adds self.old self.new (decimal number) }
+    {
+        if number < 10 {
+            self.bytes(&[48 + number as u8]);
+        } else {
+            self.number(number / 10);
+            self.bytes(&[48 + (number % 10) as u8]);
+        }
+    }
+
     /// Adds a number in decimal digits behind its label.
     pub fn labelled(&mut self, label: &str, number: u64)
         ensures { Adds self.old self.new (label.now ++ decimal number) }
     {
-        remember_lack(
-            &mut self.is_whole,
-            push_labelled(&mut self.text, label, number),
-        );
+        self.text(label);
+        self.number(number);
     }
 
-    /// Adds the name of a transaction.
-    pub fn txn(&mut self, txn: &Txn)
-        ensures { Adds self.old self.new (txn_text txn.now) }
+    /// Ends a line.
+    #[tactic(auto, unfolding(crate::specs::lines::Texts::line_end))]
+    pub fn line_end(&mut self)
+        ensures { Adds self.old self.new line_end }
     {
-        remember_lack(&mut self.is_whole, push_txn(&mut self.text, txn));
+        self.text("\n");
     }
 
-    /// Adds the answer to an operation.
-    pub fn answer(&mut self, answer: &Answer)
-        ensures { Adds self.old self.new (answer_text answer.now) }
+    /// Adds a line that is this text.
+    pub fn line(&mut self, text: &str)
+        ensures { Adds self.old self.new (text.now ++ line_end) }
     {
-        remember_lack(&mut self.is_whole, push_answer(&mut self.text, answer));
-    }
-
-    /// Adds a transaction, and what is told of it.
-    pub fn told(&mut self, told: &Told)
-        ensures { Adds self.old self.new (told_text told.now) }
-    {
-        remember_lack(&mut self.is_whole, push_told_text(&mut self.text, told));
-    }
-
-    /// Adds the lines of records.
-    pub fn records(&mut self, records: &[Record])
-        ensures { Adds self.old self.new (flat_map (record_lines []) records.now) }
-    {
-        remember_lack(
-            &mut self.is_whole,
-            push_records(&mut self.text, "", records),
-        );
-    }
-
-    /// Adds the sites of a set, with commas between them.
-    pub fn sites(&mut self, sites: SiteSet)
-        ensures { Adds self.old self.new (sites_text sites) }
-    {
-        remember_lack(&mut self.is_whole, push_sites(&mut self.text, sites));
-    }
-
-    /// Adds a direction.
-    pub fn dir(&mut self, dir: Dir)
-        ensures { Adds self.old self.new (dir_text dir) }
-    {
-        remember_lack(&mut self.is_whole, push_dir(&mut self.text, dir));
-    }
-
-    /// Adds a state.
-    pub fn state(&mut self, state: State)
-        ensures { Adds self.old self.new (state_text state) }
-    {
-        remember_lack(&mut self.is_whole, push_state(&mut self.text, state));
-    }
-
-    /// Adds a key.
-    pub fn key(&mut self, key: &Key)
-        ensures { Adds self.old self.new (key_text key.now) }
-    {
-        remember_lack(&mut self.is_whole, push_key(&mut self.text, key));
-    }
-
-    /// Adds a line for each item.
-    pub fn items(&mut self, items: &[Item])
-        ensures { Adds self.old self.new (flat_map item_line items.now) }
-    {
-        remember_lack(&mut self.is_whole, push_items(&mut self.text, items));
-    }
-
-    /// Adds a line for each row of a table.
-    pub fn rows(&mut self, rows: &[Row])
-        ensures { Adds self.old self.new (flat_map row_line rows.now) }
-    {
-        remember_lack(&mut self.is_whole, push_rows(&mut self.text, rows));
-    }
-
-    /// Adds the lines of entries, as a trace has them.
-    pub fn trace(&mut self, history: &[Entry])
-        ensures { Adds self.old self.new (trace_of history.now) }
-    {
-        remember_lack(&mut self.is_whole, push_trace(&mut self.text, history));
+        self.text(text);
+        self.line_end();
     }
 }

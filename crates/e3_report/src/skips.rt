@@ -1,13 +1,15 @@
 // The lines of a step's items that are skipped.
 ghost use Rattle.std.specs.Prelude.{◌≡◌, ◌++◌, ◌==◌, ◌+◌, [], OnOk, IfOk, count_by, not};
 ghost use Rattle.e3_world.specs.Items.{inputs_of, is_delivery};
+ghost use Rattle.e3_report.specs.Pages.{Adds};
 ghost use Rattle.e3_report.specs.Names.{meant};
 ghost use Rattle.e3_report.specs.Skips.{taker_of, items_in, items_taken, not_begun_line, input_skip, power_skip, sites_of, skip_lines};
 ghost use Rattle.e3_report.specs.Ups.{up_in};
 
+use crate::Page;
 use crate::counts::one_more;
 use crate::known::Known;
-use crate::lines::{push_line, push_word_and_bytes, push_word_line};
+use crate::lines::{push_word_and_bytes, push_word_line};
 use crate::takers::{Taker, taker_of};
 use e3_readings::is_delivery;
 use e3_types::{Act, Entry, Input, Item, List, NoMemory};
@@ -65,59 +67,54 @@ fn count_of(sites: &[u32], site: u32) -> u64
 }
 
 #[tactic(auto, unfolding(crate::specs::Skips::not_begun_line))]
-fn push_not_begun(out: &mut List<u8>, name: &[u8]) -> Result<(), NoMemory>
-    ensures { OnOk result (out.new ≡ out.old ++ not_begun_line name.now) }
+fn push_not_begun(page: &mut Page, name: &[u8])
+    ensures { Adds page.old page.new (not_begun_line name.now) }
 {
-    push_word_and_bytes(out, "0: ", name)?;
-    push_line(out, " not begun")
+    push_word_and_bytes(page, "0: ", name);
+    page.line(" not begun");
 }
 
 /// Adds a line where an input is skipped.
 #[tactic(auto, unfolding(crate::specs::Skips::input_skip))]
 fn push_input_skip(
-    out: &mut List<u8>,
+    page: &mut Page,
     during: &[Entry],
     earlier: &[u32],
     taker: &Taker,
 ) -> Result<(), NoMemory>
-    ensures { OnOk result (out.new ≡ out.old ++ input_skip during.now earlier.now taker.now) }
+    ensures { OnOk result (Adds page.old page.new (input_skip during.now earlier.now taker.now)) }
 {
     match taker {
         Taker::Site(site) => {
             let had = count_of(earlier, *site);
             let took = items_taken(*site, during)?;
-            if had < took {
-                Ok(())
-            } else {
-                push_word_line(out, *site, "down")
+            if took <= had {
+                push_word_line(page, *site, "down");
             }
         }
-        Taker::NotBegun(name) => push_not_begun(out, name.bytes()),
-        Taker::Nobody => Ok(()),
+        Taker::NotBegun(name) => push_not_begun(page, name.bytes()),
+        Taker::Nobody => {}
     }
+    Ok(())
 }
 
 /// Adds a line where a crash or a restart is skipped.
 #[tactic(auto, unfolding(crate::specs::Skips::power_skip))]
-fn push_power_skip(out: &mut List<u8>, ups: &BTreeSet<u32>, item: &Item) -> Result<(), NoMemory>
-    ensures { OnOk result (out.new ≡ out.old ++ power_skip (up_in ups.now.keys) item.now) }
+fn push_power_skip(page: &mut Page, ups: &BTreeSet<u32>, item: &Item)
+    ensures { Adds page.old page.new (power_skip (up_in ups.now.keys) item.now) }
 {
     match item {
         Item::Crash { site } => {
-            if ups.contains(site) {
-                Ok(())
-            } else {
-                push_word_line(out, *site, "down")
+            if !ups.contains(site) {
+                push_word_line(page, *site, "down");
             }
         }
         Item::Restart { site } => {
             if ups.contains(site) {
-                push_word_line(out, *site, "up")
-            } else {
-                Ok(())
+                push_word_line(page, *site, "up");
             }
         }
-        _ => Ok(()),
+        _ => {}
     }
 }
 
@@ -132,47 +129,47 @@ fn add_site(earlier: &mut List<u32>, taker: &Taker) -> Result<(), NoMemory>
 
 /// Adds a line where an item with this taker is skipped, and its site to those of the items before.
 fn push_taken(
-    out: &mut List<u8>,
+    page: &mut Page,
     during: &[Entry],
     earlier: &mut List<u32>,
     taker: &Taker,
 ) -> Result<(), NoMemory>
-    ensures text { OnOk result (out.new ≡ out.old ++ input_skip during.now earlier.old taker.now) }
+    ensures text { OnOk result (Adds page.old page.new (input_skip during.now earlier.old taker.now)) }
     ensures sites { OnOk result (earlier.new ≡ earlier.old ++ sites_of taker.now) }
 {
-    push_input_skip(out, during, earlier.as_slice(), taker)?;
+    push_input_skip(page, during, earlier.as_slice(), taker)?;
     add_site(earlier, taker)
 }
 
 /// Adds a line where this item is skipped, and its site to those of the items before.
 fn push_skip(
-    out: &mut List<u8>,
+    page: &mut Page,
     known: &Known,
     during: &[Entry],
     earlier: &mut List<u32>,
     item: &Item,
 ) -> Result<(), NoMemory>
-    ensures text { OnOk result (out.new ≡ out.old ++ (power_skip (up_in known.now.ups.keys) item.now ++ input_skip during.now earlier.old (taker_of (meant known.now.names) item.now))) }
+    ensures text { OnOk result (Adds page.old page.new (power_skip (up_in known.now.ups.keys) item.now ++ input_skip during.now earlier.old (taker_of (meant known.now.names) item.now))) }
     ensures sites { OnOk result (earlier.new ≡ earlier.old ++ sites_of (taker_of (meant known.now.names) item.now)) }
 {
-    push_power_skip(out, &known.ups, item)?;
+    push_power_skip(page, &known.ups, item);
     let taker = taker_of(&known.names, item);
-    push_taken(out, during, earlier, &taker)
+    push_taken(page, during, earlier, &taker)
 }
 
 /// Adds a line for each item that is skipped, where this is known at the step's line.
 pub(crate) fn push_skips(
     alloc: Global,
-    out: &mut List<u8>,
+    page: &mut Page,
     known: &Known,
     during: &[Entry],
     items: &[Item],
 ) -> Result<(), NoMemory>
-    ensures { OnOk result (out.new ≡ out.old ++ skip_lines (meant known.now.names) (up_in known.now.ups.keys) during.now [] items.now) }
+    ensures { OnOk result (Adds page.old page.new (skip_lines (meant known.now.names) (up_in known.now.ups.keys) during.now [] items.now)) }
 {
     let mut earlier = List::new(alloc);
     for item in items {
-        push_skip(out, known, during, &mut earlier, item)?;
+        push_skip(page, known, during, &mut earlier, item)?;
     }
     Ok(())
 }

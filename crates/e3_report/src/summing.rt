@@ -1,8 +1,9 @@
 // The summary of a drill.
 ghost use Rattle.std.specs.Prelude.{◌≡◌, ◌++◌, ◌+◌, ◌-◌, IfOk, OnOk, codes};
+ghost use Rattle.e3_report.specs.Pages.{Adds};
 ghost use Rattle.e3_report.specs.Summary.{is_cut, is_fall, is_rise, is_kind, count_of, committed, aborted, begun, count_line, summary_with, summary_of};
 
-use crate::lines::{push_labelled, push_line, push_line_end, push_text};
+use crate::Page;
 use crate::logs::walk_of;
 use crate::tallies::{aborted, begun};
 use e3_order::commit_order;
@@ -70,55 +71,66 @@ fn undecided(counted: Counted) -> u64
 }
 
 #[tactic(auto, unfolding(crate::specs::Summary::count_line))]
-fn push_count(out: &mut List<u8>, word: &str, number: u64) -> Result<(), NoMemory>
-    ensures { OnOk result (out.new ≡ out.old ++ count_line word.now number) }
+fn push_count(page: &mut Page, word: &str, number: u64)
+    ensures { Adds page.old page.new (count_line word.now number) }
 {
-    push_text(out, word)?;
-    push_labelled(out, " ", number)?;
-    push_line_end(out)
+    page.text(word);
+    page.labelled(" ", number);
+    page.line_end();
 }
 
 /// Adds how many entries of a kind there are, behind a word.
-fn push_kind(out: &mut List<u8>, word: &str, kind: Kind, history: &[Entry]) -> Result<(), NoMemory>
-    ensures { OnOk result (out.new ≡ out.old ++ count_line word.now (count_of (is_kind kind) history.now)) }
+fn push_kind(page: &mut Page, word: &str, kind: Kind, history: &[Entry])
+    ensures { Adds page.old page.new (count_line word.now (count_of (is_kind kind) history.now)) }
 {
-    push_count(out, word, count_of(kind, history))
+    push_count(page, word, count_of(kind, history));
 }
 
 /// Adds how many transactions are committed, are aborted, and were begun and are neither.
-fn push_transactions(out: &mut List<u8>, counted: Counted) -> Result<(), NoMemory>
-    ensures { OnOk result (out.new ≡ out.old ++ (count_line (codes "committed") counted.committed ++ count_line (codes "aborted") counted.aborted
-        ++ count_line (codes "undecided") (counted.begun - (counted.committed + counted.aborted)))) }
+fn push_transactions(page: &mut Page, counted: Counted)
+    ensures { Adds page.old page.new (count_line (codes "committed") counted.committed ++ count_line (codes "aborted") counted.aborted
+        ++ count_line (codes "undecided") (counted.begun - (counted.committed + counted.aborted))) }
 {
-    push_count(out, "committed", counted.committed)?;
-    push_count(out, "aborted", counted.aborted)?;
-    push_count(out, "undecided", undecided(counted))
+    push_count(page, "committed", counted.committed);
+    push_count(page, "aborted", counted.aborted);
+    push_count(page, "undecided", undecided(counted));
 }
 
 /// Adds how many cuts, falls and rises there were.
-fn push_faults(out: &mut List<u8>, history: &[Entry]) -> Result<(), NoMemory>
-    ensures { OnOk result (out.new ≡ out.old ++ (count_line (codes "cuts") (count_of is_cut history.now)
-        ++ count_line (codes "falls") (count_of is_fall history.now) ++ count_line (codes "rises") (count_of is_rise history.now))) }
+fn push_faults(page: &mut Page, history: &[Entry])
+    ensures { Adds page.old page.new (count_line (codes "cuts") (count_of is_cut history.now)
+        ++ count_line (codes "falls") (count_of is_fall history.now) ++ count_line (codes "rises") (count_of is_rise history.now)) }
 {
-    push_kind(out, "cuts", Kind::Cut, history)?;
-    push_kind(out, "falls", Kind::Fall, history)?;
-    push_kind(out, "rises", Kind::Rise, history)
+    push_kind(page, "cuts", Kind::Cut, history);
+    push_kind(page, "falls", Kind::Fall, history);
+    push_kind(page, "rises", Kind::Rise, history);
 }
 
 /// Adds the summary, where this is what is counted of transactions.
-fn push_summary(
-    out: &mut List<u8>,
+fn push_summary(page: &mut Page, n: u32, counted: Counted, history: &[Entry])
+    ensures { Adds page.old page.new (summary_with n counted.committed counted.aborted counted.begun history.now) }
+{
+    push_count(page, "drill", n as u64);
+    push_kind(page, "steps", Kind::Step, history);
+    push_transactions(page, counted);
+    push_faults(page, history);
+    page.line("end");
+}
+
+// Adds the summary of a drill.
+fn push_drill(
+    alloc: Global,
+    page: &mut Page,
     n: u32,
-    counted: Counted,
+    scenario: &Scenario,
     history: &[Entry],
 ) -> Result<(), NoMemory>
-    ensures { OnOk result (out.new ≡ out.old ++ summary_with n counted.committed counted.aborted counted.begun history.now) }
+    ensures { OnOk result (Adds page.old page.new (summary_of n scenario.now history.now)) }
 {
-    push_count(out, "drill", n as u64)?;
-    push_kind(out, "steps", Kind::Step, history)?;
-    push_transactions(out, counted)?;
-    push_faults(out, history)?;
-    push_line(out, "end")
+    let walk = walk_of(alloc, scenario, history)?;
+    let counted = count_all(alloc, walk.placed(), history)?;
+    push_summary(page, n, counted, history);
+    Ok(())
 }
 
 /// The summary of the drill with this number, over its scenario and history: a line for the number, then one for each count.
@@ -131,10 +143,7 @@ pub fn summary(
 ) -> Result<List<u8>, NoMemory>
     ensures { IfOk result (λ text. text ≡ summary_of n scenario.now history.now.entries) }
 {
-    let entries = history.as_slice();
-    let walk = walk_of(alloc, scenario, entries)?;
-    let counted = count_all(alloc, walk.placed(), entries)?;
-    let mut out = List::new(alloc);
-    push_summary(&mut out, n, counted, entries)?;
-    Ok(out)
+    let mut page = Page::new(alloc);
+    push_drill(alloc, &mut page, n, scenario, history.as_slice())?;
+    page.done().ok_or(NoMemory)
 }

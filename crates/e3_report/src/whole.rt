@@ -1,11 +1,12 @@
 // The whole report.
-ghost use Rattle.std.specs.Prelude.{◌≡◌, ◌++◌, IfOk, OnOk};
+ghost use Rattle.std.specs.Prelude.{◌≡◌, IfOk, OnOk};
 ghost use Rattle.std.specs.List.{flat_map};
 ghost use Rattle.e3_world.specs.Packets.{all_sites};
+ghost use Rattle.e3_report.specs.Pages.{Adds};
 ghost use Rattle.e3_report.specs.Report.{report_without_trace, trace_lines, report_of};
 ghost use Rattle.e3_report.specs.Walk.{site_by, report_by};
 
-use crate::lines::{push_line, push_trace};
+use crate::Page;
 use crate::logs::{log_in, walk_of};
 use crate::orders::push_order;
 use crate::sites::{present_inc, push_log, push_site_heading};
@@ -27,41 +28,48 @@ struct Reported<'a> {
 impl Reported<'_> {
     /// Adds how a site stands.
     #[tactic(auto, unfolding(crate::specs::Walk::site_by))]
-    fn push_site(&self, out: &mut List<u8>, site: u64) -> Result<(), NoMemory>
-        ensures { OnOk result (out.new ≡ out.old ++ site_by self.now.history.now self.now.placed.now site) }
+    fn push_site(&self, page: &mut Page, site: u64) -> Result<(), NoMemory>
+        ensures { OnOk result (Adds page.old page.new (site_by self.now.history.now self.now.placed.now site)) }
     {
-        push_site_heading(out, site, present_inc(site, self.history))?;
+        push_site_heading(page, site, present_inc(site, self.history));
         let log = log_in(self.alloc, site, self.placed)?;
-        push_log(self.alloc, out, log.as_slice())
+        push_log(self.alloc, page, log.as_slice())
     }
 
     /// Adds how each site stands, in ascending order.
     #[tactic(auto, using(crate::proofs::OneSiteMore::one_site_more))]
-    fn push_all_sites(&self, out: &mut List<u8>) -> Result<(), NoMemory>
-        ensures { OnOk result (out.new ≡ out.old ++ flat_map (site_by self.now.history.now self.now.placed.now) (all_sites self.now.scenario.now)) }
+    fn push_all_sites(&self, page: &mut Page) -> Result<(), NoMemory>
+        ensures { OnOk result (Adds page.old page.new (flat_map (site_by self.now.history.now self.now.placed.now) (all_sites self.now.scenario.now))) }
     {
         let sites = self.scenario.weights.len();
         for before in 0..sites {
-            self.push_site(out, before + 1)?;
+            self.push_site(page, before + 1)?;
         }
         Ok(())
     }
 
     /// Adds the report.
     #[tactic(auto, unfolding(crate::specs::Walk::report_by))]
-    fn push_report(&self, out: &mut List<u8>) -> Result<(), NoMemory>
-        ensures { OnOk result (out.new ≡ out.old ++ report_by self.now.scenario.now self.now.history.now self.now.placed.now) }
+    fn push_report(&self, page: &mut Page) -> Result<(), NoMemory>
+        ensures { OnOk result (Adds page.old page.new (report_by self.now.scenario.now self.now.history.now self.now.placed.now)) }
     {
-        push_start(out, self.scenario, self.history)?;
-        push_steps(self.alloc, out, self.scenario, self.history)?;
-        push_order(self.alloc, out, self.placed)?;
-        self.push_all_sites(out)?;
-        push_line(out, "end")
+        push_start(page, self.scenario, self.history);
+        push_steps(self.alloc, page, self.scenario, self.history)?;
+        push_order(self.alloc, page, self.placed)?;
+        self.push_all_sites(page)?;
+        page.line("end");
+        Ok(())
     }
 }
 
-fn report_alone(alloc: Global, scenario: &Scenario, history: &[Entry]) -> Result<List<u8>, NoMemory>
-    ensures { IfOk result (λ text. text ≡ report_without_trace scenario.now history.now) }
+// Adds the report without a trace.
+fn push_report_alone(
+    alloc: Global,
+    page: &mut Page,
+    scenario: &Scenario,
+    history: &[Entry],
+) -> Result<(), NoMemory>
+    ensures { OnOk result (Adds page.old page.new (report_without_trace scenario.now history.now)) }
 {
     let walk = walk_of(alloc, scenario, history)?;
     let reported = Reported {
@@ -70,21 +78,17 @@ fn report_alone(alloc: Global, scenario: &Scenario, history: &[Entry]) -> Result
         history,
         placed: walk.placed(),
     };
-    let mut out = List::new(alloc);
-    reported.push_report(&mut out)?;
-    Ok(out)
+    reported.push_report(page)
 }
 
 /// Adds the trace, where it is asked for.
 #[tactic(auto, unfolding(crate::specs::Report::trace_lines))]
-fn push_trace_lines(out: &mut List<u8>, history: &[Entry], trace: bool) -> Result<(), NoMemory>
-    ensures { OnOk result (out.new ≡ out.old ++ trace_lines history.now trace) }
+fn push_trace_lines(page: &mut Page, history: &[Entry], trace: bool)
+    ensures { Adds page.old page.new (trace_lines history.now trace) }
 {
     if trace {
-        push_trace(out, history)?;
-        push_line(out, "end")
-    } else {
-        Ok(())
+        page.trace(history);
+        page.line("end");
     }
 }
 
@@ -100,7 +104,8 @@ pub fn report(
 ) -> Result<List<u8>, NoMemory>
     ensures { IfOk result (λ text. text ≡ report_of scenario.now history.now.entries trace) }
 {
-    let mut out = report_alone(alloc, scenario, history.as_slice())?;
-    push_trace_lines(&mut out, history.as_slice(), trace)?;
-    Ok(out)
+    let mut page = Page::new(alloc);
+    push_report_alone(alloc, &mut page, scenario, history.as_slice())?;
+    push_trace_lines(&mut page, history.as_slice(), trace);
+    page.done().ok_or(NoMemory)
 }

@@ -1,42 +1,43 @@
 // The lines that are written in place of a report.
-ghost use Rattle.std.specs.Prelude.{◌≡◌, ◌++◌, IfOk, OnOk};
+ghost use Rattle.std.specs.Prelude.{◌≡◌, ◌++◌, IfOk};
+ghost use Rattle.e3_report.specs.Pages.{Adds};
 ghost use Rattle.e3_scenario.specs.Faults.{field_word, fault_words, fault_text};
 
 use crate::faults::{Field, ScenarioFault};
-use e3_report::lines::{push_labelled, push_text};
+use e3_report::Page;
 use e3_types::{List, NoMemory};
 use std::alloc::Global;
 
-fn push_field(out: &mut List<u8>, label: &str, field: Field) -> Result<(), NoMemory>
-    ensures { OnOk result (out.new ≡ out.old ++ (label.now ++ field_word field)) }
+fn push_field(page: &mut Page, label: &str, field: Field)
+    ensures { Adds page.old page.new (label.now ++ field_word field) }
 {
-    push_text(out, label)?;
+    page.text(label);
     match field {
-        Field::Weights => push_text(out, "weights"),
-        Field::Rows => push_text(out, "rows"),
-        Field::Loss => push_text(out, "loss"),
-        Field::Repeat => push_text(out, "repeat"),
-        Field::Luck => push_text(out, "luck"),
-        Field::Steps => push_text(out, "steps"),
+        Field::Weights => page.text("weights"),
+        Field::Rows => page.text("rows"),
+        Field::Loss => page.text("loss"),
+        Field::Repeat => page.text("repeat"),
+        Field::Luck => page.text("luck"),
+        Field::Steps => page.text("steps"),
     }
 }
 
-fn push_fault(out: &mut List<u8>, fault: &ScenarioFault) -> Result<(), NoMemory>
-    ensures { OnOk result (out.new ≡ out.old ++ fault_words fault.now) }
+fn push_fault(page: &mut Page, fault: &ScenarioFault)
+    ensures { Adds page.old page.new (fault_words fault.now) }
 {
     match fault {
-        ScenarioFault::TooLong => push_text(out, "too-long"),
-        ScenarioFault::NotToml => push_text(out, "not-toml"),
-        ScenarioFault::UnknownKey => push_text(out, "unknown-key"),
-        ScenarioFault::Kind { field } => push_field(out, "kind ", *field),
-        ScenarioFault::Range { field } => push_field(out, "range ", *field),
-        ScenarioFault::RowTwice => push_text(out, "row-twice"),
-        ScenarioFault::BadLine { step } => push_labelled(out, "bad-line ", *step as u64),
-        ScenarioFault::NoSite { step } => push_labelled(out, "no-site ", *step as u64),
-        ScenarioFault::NoTxn { step } => push_labelled(out, "no-transaction ", *step as u64),
-        ScenarioFault::NameTwice { step } => push_labelled(out, "name-twice ", *step as u64),
-        ScenarioFault::Parts { step } => push_labelled(out, "parts ", *step as u64),
-        ScenarioFault::NoMemory => push_text(out, "no-memory"),
+        ScenarioFault::TooLong => page.text("too-long"),
+        ScenarioFault::NotToml => page.text("not-toml"),
+        ScenarioFault::UnknownKey => page.text("unknown-key"),
+        ScenarioFault::Kind { field } => push_field(page, "kind ", *field),
+        ScenarioFault::Range { field } => push_field(page, "range ", *field),
+        ScenarioFault::RowTwice => page.text("row-twice"),
+        ScenarioFault::BadLine { step } => page.labelled("bad-line ", *step as u64),
+        ScenarioFault::NoSite { step } => page.labelled("no-site ", *step as u64),
+        ScenarioFault::NoTxn { step } => page.labelled("no-transaction ", *step as u64),
+        ScenarioFault::NameTwice { step } => page.labelled("name-twice ", *step as u64),
+        ScenarioFault::Parts { step } => page.labelled("parts ", *step as u64),
+        ScenarioFault::NoMemory => page.text("no-memory"),
     }
 }
 
@@ -45,9 +46,9 @@ fn push_fault(out: &mut List<u8>, fault: &ScenarioFault) -> Result<(), NoMemory>
 pub fn fault_line(alloc: Global, fault: &ScenarioFault) -> Result<List<u8>, NoMemory>
     ensures { IfOk result (λ line. line ≡ fault_text fault.now) }
 {
-    let mut line = List::new(alloc);
-    push_text(&mut line, "refused ")?;
-    push_fault(&mut line, fault)?;
-    push_text(&mut line, "\n")?;
-    Ok(line)
+    let mut page = Page::new(alloc);
+    page.text("refused ");
+    push_fault(&mut page, fault);
+    page.text("\n");
+    page.done().ok_or(NoMemory)
 }

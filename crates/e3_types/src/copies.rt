@@ -95,45 +95,38 @@ impl<T: Copied + Drop> Copied for List<T> {
 
 impl Copied for Record {
     fn copied(&self, alloc: Global) -> Result<Record, NoMemory> {
-        Ok(match self {
+        Ok(match *self {
             Record::Birth {
                 format,
                 site,
-                weights,
-                rows,
+                ref weights,
+                ref rows,
             } => Record::Birth {
-                format: *format,
-                site: *site,
+                format,
+                site,
                 weights: weights.copied(alloc)?,
                 rows: rows.copied(alloc)?,
             },
-            Record::Inc { inc } => Record::Inc { inc: *inc },
-            Record::Vote { txn, ops } => Record::Vote {
-                txn: *txn,
+            Record::Inc { inc } => Record::Inc { inc },
+            Record::Vote { txn, ref ops } => Record::Vote {
+                txn,
                 ops: ops.copied(alloc)?,
             },
-            Record::Join { txn, n } => Record::Join { txn: *txn, n: *n },
-            Record::Attempt { txn, n, dir } => Record::Attempt {
-                txn: *txn,
-                n: *n,
-                dir: *dir,
-            },
-            Record::Decision { txn, dir } => Record::Decision {
-                txn: *txn,
-                dir: *dir,
-            },
+            Record::Join { txn, n } => Record::Join { txn, n },
+            Record::Attempt { txn, n, dir } => Record::Attempt { txn, n, dir },
+            Record::Decision { txn, dir } => Record::Decision { txn, dir },
         })
     }
 }
 
 impl Copied for Act {
     fn copied(&self, alloc: Global) -> Result<Act, NoMemory> {
-        Ok(match self {
+        Ok(match *self {
             Act::Step {
-                input,
-                records,
-                outs,
-                told,
+                ref input,
+                ref records,
+                ref outs,
+                ref told,
             } => Act::Step {
                 input: input.copy(),
                 records: records.copied(alloc)?,
@@ -141,30 +134,23 @@ impl Copied for Act {
                 told: told.copied(alloc)?,
             },
             Act::Fall {
-                inputs,
-                records,
+                ref inputs,
+                ref records,
                 why,
             } => Act::Fall {
                 inputs: inputs.copied(alloc)?,
                 records: records.copied(alloc)?,
-                why: *why,
+                why,
             },
-            Act::Rise { kept, inc } => Act::Rise {
-                kept: *kept,
-                inc: *inc,
-            },
-            Act::RiseFall { kept, inc, why } => Act::RiseFall {
-                kept: *kept,
-                inc: *inc,
-                why: *why,
-            },
+            Act::Rise { kept, inc } => Act::Rise { kept, inc },
+            Act::RiseFall { kept, inc, why } => Act::RiseFall { kept, inc, why },
             Act::Miss => Act::Miss,
             Act::Cut => Act::Cut,
-            Act::Drop { packet } => Act::Drop { packet: *packet },
-            Act::Parts { parts } => Act::Parts {
+            Act::Drop { packet } => Act::Drop { packet },
+            Act::Parts { ref parts } => Act::Parts {
                 parts: parts.copied(alloc)?,
             },
-            Act::Line { number } => Act::Line { number: *number },
+            Act::Line { number } => Act::Line { number },
         })
     }
 }
@@ -180,44 +166,52 @@ impl Copied for Entry {
 
 impl Copied for Item {
     fn copied(&self, alloc: Global) -> Result<Item, NoMemory> {
-        Ok(match self {
-            Item::Begin { name, site, sites } => Item::Begin {
+        Ok(match *self {
+            Item::Begin {
+                ref name,
+                site,
+                sites,
+            } => Item::Begin {
                 name: name.copy(),
-                site: *site,
-                sites: *sites,
+                site,
+                sites,
             },
-            Item::Read { name, key } => Item::Read {
+            Item::Read { ref name, ref key } => Item::Read {
                 name: name.copy(),
                 key: key.copy(),
             },
-            Item::Write { name, key, val } => Item::Write {
+            Item::Write {
+                ref name,
+                ref key,
+                ref val,
+            } => Item::Write {
                 name: name.copy(),
                 key: key.copy(),
                 val: val.copy(),
             },
-            Item::Commit { name } => Item::Commit { name: name.copy() },
-            Item::Cancel { name } => Item::Cancel { name: name.copy() },
-            Item::Expire { site, name } => Item::Expire {
-                site: *site,
+            Item::Commit { ref name } => Item::Commit { name: name.copy() },
+            Item::Cancel { ref name } => Item::Cancel { name: name.copy() },
+            Item::Expire { site, ref name } => Item::Expire {
+                site,
                 name: name.copy(),
             },
-            Item::Elect { site, name, sites } => Item::Elect {
-                site: *site,
+            Item::Elect {
+                site,
+                ref name,
+                sites,
+            } => Item::Elect {
+                site,
                 name: name.copy(),
-                sites: *sites,
+                sites,
             },
-            Item::Recover { sites } => Item::Recover { sites: *sites },
-            Item::Split { parts } => Item::Split {
+            Item::Recover { sites } => Item::Recover { sites },
+            Item::Split { ref parts } => Item::Split {
                 parts: parts.copied(alloc)?,
             },
             Item::Merge => Item::Merge,
-            Item::Crash { site } => Item::Crash { site: *site },
-            Item::Restart { site } => Item::Restart { site: *site },
-            Item::Stop { site, count, leave } => Item::Stop {
-                site: *site,
-                count: *count,
-                leave: *leave,
-            },
+            Item::Crash { site } => Item::Crash { site },
+            Item::Restart { site } => Item::Restart { site },
+            Item::Stop { site, count, leave } => Item::Stop { site, count, leave },
         })
     }
 }

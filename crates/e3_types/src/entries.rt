@@ -20,20 +20,14 @@ impl Input {
     pub fn copy(&self) -> Input
         ensures { result ≡ self.now }
     {
-        match self {
-            Input::Begin { sites } => Input::Begin { sites: *sites },
-            Input::Do { txn, op } => Input::Do {
-                txn: *txn,
-                op: op.copy(),
-            },
-            Input::Commit { txn } => Input::Commit { txn: *txn },
-            Input::Cancel { txn } => Input::Cancel { txn: *txn },
-            Input::Expire { txn } => Input::Expire { txn: *txn },
-            Input::Elect { txn, group } => Input::Elect {
-                txn: *txn,
-                group: *group,
-            },
-            Input::Deliver { packet } => Input::Deliver {
+        match *self {
+            Input::Begin { sites } => Input::Begin { sites },
+            Input::Do { txn, ref op } => Input::Do { txn, op: op.copy() },
+            Input::Commit { txn } => Input::Commit { txn },
+            Input::Cancel { txn } => Input::Cancel { txn },
+            Input::Expire { txn } => Input::Expire { txn },
+            Input::Elect { txn, group } => Input::Elect { txn, group },
+            Input::Deliver { ref packet } => Input::Deliver {
                 packet: packet.copy(),
             },
         }
@@ -97,45 +91,29 @@ impl Told {
     pub fn copy(&self) -> Told
         ensures { result ≡ self.now }
     {
-        match self {
-            Told::Began { txn } => Told::Began { txn: *txn },
-            Told::Op { txn, n, answer } => Told::Op {
-                txn: *txn,
-                n: *n,
+        match *self {
+            Told::Began { txn } => Told::Began { txn },
+            Told::Op { txn, n, ref answer } => Told::Op {
+                txn,
+                n,
                 answer: answer.copy(),
             },
-            Told::Ended { txn, dir } => Told::Ended {
-                txn: *txn,
-                dir: *dir,
-            },
-            Told::Died { txn, older } => Told::Died {
-                txn: *txn,
-                older: *older,
-            },
+            Told::Ended { txn, dir } => Told::Ended { txn, dir },
+            Told::Died { txn, older } => Told::Died { txn, older },
             Told::Doomed {
                 txn,
                 site,
                 had,
                 now,
             } => Told::Doomed {
-                txn: *txn,
-                site: *site,
-                had: *had,
-                now: *now,
+                txn,
+                site,
+                had,
+                now,
             },
-            Told::Refused { txn, refusal } => Told::Refused {
-                txn: *txn,
-                refusal: *refusal,
-            },
-            Told::Kept { txn, state } => Told::Kept {
-                txn: *txn,
-                state: *state,
-            },
-            Told::Verdict { txn, n, verdict } => Told::Verdict {
-                txn: *txn,
-                n: *n,
-                verdict: *verdict,
-            },
+            Told::Refused { txn, refusal } => Told::Refused { txn, refusal },
+            Told::Kept { txn, state } => Told::Kept { txn, state },
+            Told::Verdict { txn, n, verdict } => Told::Verdict { txn, n, verdict },
         }
     }
 }

@@ -84,72 +84,47 @@ impl Message {
     pub fn copy(&self) -> Message
         ensures { result ≡ self.now }
     {
-        match self {
-            Message::Do { txn, n, op } => Message::Do {
-                txn: *txn,
-                n: *n,
+        match *self {
+            Message::Do { txn, n, ref op } => Message::Do {
+                txn,
+                n,
                 op: op.copy(),
             },
             Message::Done {
                 txn,
                 n,
                 inc,
-                answer,
+                ref answer,
             } => Message::Done {
-                txn: *txn,
-                n: *n,
-                inc: *inc,
+                txn,
+                n,
+                inc,
                 answer: answer.copy(),
             },
-            Message::Died { txn, n, older } => Message::Died {
-                txn: *txn,
-                n: *n,
-                older: *older,
-            },
-            Message::Ask { txn, call } => Message::Ask {
-                txn: *txn,
-                call: *call,
-            },
+            Message::Died { txn, n, older } => Message::Died { txn, n, older },
+            Message::Ask { txn, call } => Message::Ask { txn, call },
             Message::LastElected { txn, call, elected } => Message::LastElected {
-                txn: *txn,
-                call: *call,
-                elected: *elected,
+                txn,
+                call,
+                elected,
             },
-            Message::Elected { txn, n } => Message::Elected { txn: *txn, n: *n },
+            Message::Elected { txn, n } => Message::Elected { txn, n },
             Message::Report {
                 txn,
                 n,
                 state,
                 attempt,
             } => Message::Report {
-                txn: *txn,
-                n: *n,
-                state: *state,
-                attempt: *attempt,
+                txn,
+                n,
+                state,
+                attempt,
             },
-            Message::VoteReq { txn, inc, count } => Message::VoteReq {
-                txn: *txn,
-                inc: *inc,
-                count: *count,
-            },
-            Message::Vote { txn, yes } => Message::Vote {
-                txn: *txn,
-                yes: *yes,
-            },
-            Message::Pre { txn, n, dir } => Message::Pre {
-                txn: *txn,
-                n: *n,
-                dir: *dir,
-            },
-            Message::Ack { txn, n, dir } => Message::Ack {
-                txn: *txn,
-                n: *n,
-                dir: *dir,
-            },
-            Message::Decide { txn, dir } => Message::Decide {
-                txn: *txn,
-                dir: *dir,
-            },
+            Message::VoteReq { txn, inc, count } => Message::VoteReq { txn, inc, count },
+            Message::Vote { txn, yes } => Message::Vote { txn, yes },
+            Message::Pre { txn, n, dir } => Message::Pre { txn, n, dir },
+            Message::Ack { txn, n, dir } => Message::Ack { txn, n, dir },
+            Message::Decide { txn, dir } => Message::Decide { txn, dir },
         }
     }
 }

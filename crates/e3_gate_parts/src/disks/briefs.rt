@@ -25,7 +25,7 @@ fn add_records(
 }
 
 // The bytes of a brief.
-fn bytes_of(alloc: Global, brief: Result<List<Record>, NoMemory>) -> Page {
+fn brief_bytes(alloc: Global, brief: Result<List<Record>, NoMemory>) -> Page {
     let mut bytes = Page::new(alloc);
     match brief {
         Ok(records) => push_bytes(alloc, &mut bytes, records.as_slice()),
@@ -44,9 +44,9 @@ fn push_bytes(alloc: Global, page: &mut Page, records: &[Record]) {
 
 // Adds how the log was turned to the brief of these records, and the bytes of the brief.
 fn push_turned(alloc: Global, page: &mut Page, log: &mut Log<MemDisk>, records: &[Record]) {
-    let short = bytes_of(alloc, brief(alloc, records));
+    let short = brief_bytes(alloc, brief(alloc, records));
     if !short.is_whole() {
-        page.lack();
+        return page.lack();
     }
     push_turn(page, turn(log, short.as_slice()));
     page.text(" ");
@@ -55,8 +55,8 @@ fn push_turned(alloc: Global, page: &mut Page, log: &mut Log<MemDisk>, records: 
 
 // Adds whether a site that rose with these records, as its tables have them, tells their brief, or the one that it told.
 fn push_own(alloc: Global, page: &mut Page, site: &Site, records: &[Record]) {
-    let told = bytes_of(alloc, brief_of_site(alloc, site));
-    let short = bytes_of(alloc, brief(alloc, records));
+    let told = brief_bytes(alloc, brief_of_site(alloc, site));
+    let short = brief_bytes(alloc, brief(alloc, records));
     if !told.is_whole() || !short.is_whole() {
         page.lack();
     }
@@ -82,20 +82,27 @@ fn push_risen(alloc: Global, page: &mut Page, records: &[Record]) {
     }
 }
 
-/// Turns the log to the brief of what it holds, and adds how that ended, and the bytes of the brief; or adds of a site that rises
-/// with the records of the log whether it tells their brief.
-pub fn push_told(
-    alloc: Global,
-    page: &mut Page,
-    log: &mut Log<MemDisk>,
-    bodies: &[List<u8>],
-    is_of_site: bool,
-) {
+// The records of these bodies; none where a body is not records, which the page says, or where memory is lacking.
+fn read_bodies(alloc: Global, page: &mut Page, bodies: &[List<u8>]) -> Option<List<Record>> {
     let mut records = List::new(alloc);
     match add_records(alloc, &mut records, bodies) {
-        Ok(true) if is_of_site => push_risen(alloc, page, records.as_slice()),
-        Ok(true) => push_turned(alloc, page, log, records.as_slice()),
+        Ok(true) => return Some(records),
         Ok(false) => page.text("no records"),
         Err(NoMemory) => page.lack(),
+    }
+    None
+}
+
+/// Turns the log to the brief of what it holds, and adds how that ended, and the bytes of the brief.
+pub fn push_log_brief(alloc: Global, page: &mut Page, log: &mut Log<MemDisk>, bodies: &[List<u8>]) {
+    if let Some(records) = read_bodies(alloc, page, bodies) {
+        push_turned(alloc, page, log, records.as_slice());
+    }
+}
+
+/// Adds of a site that rises with the records of these bodies whether it tells their brief.
+pub fn push_site_brief(alloc: Global, page: &mut Page, bodies: &[List<u8>]) {
+    if let Some(records) = read_bodies(alloc, page, bodies) {
+        push_risen(alloc, page, records.as_slice());
     }
 }

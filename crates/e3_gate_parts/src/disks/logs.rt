@@ -1,6 +1,6 @@
 // What is done with a log over a disk.
 use crate::answers::{push_append, push_cause, push_frames, push_turn};
-use crate::disks::briefs::push_told;
+use crate::disks::briefs::{push_log_brief, push_site_brief};
 use crate::disks::calls::leave_of;
 use crate::disks::{Held, Word};
 use crate::texts::{bytes_of, letter_of, number, small};
@@ -130,7 +130,8 @@ pub fn act_on_log(
     word: &Word,
 ) {
     match word.letter {
-        b'b' | b's' => push_told(alloc, page, log, bodies.as_slice(), word.letter == b's'),
+        b'b' => push_log_brief(alloc, page, log, bodies.as_slice()),
+        b's' => push_site_brief(alloc, page, bodies.as_slice()),
         b'a' if word.second.is_empty() => add(alloc, page, log, bodies, word.bytes),
         _ => act(page, log, word),
     }

@@ -72,7 +72,8 @@ fn push_cuts(alloc: Global, page: &mut Page, body: &[u8]) {
     page.text("\n");
 }
 
-// Adds where the body is bad when one of its bytes is greater by one: where that is a byte of a number or a value, the body may be other records.
+// Adds where the body is bad when one of its bytes is greater by one: where that is a byte of a number or a value, the body may be
+// other records.
 fn push_changes(alloc: Global, page: &mut Page, body: &[u8]) {
     page.text("changed:");
     let mut place = 0u64;

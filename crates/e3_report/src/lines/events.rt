@@ -1,121 +1,134 @@
 // The lines of what happens at a site.
-ghost use Rattle.std.specs.Prelude.{◌≡◌, ◌++◌, OnOk, codes};
+ghost use Rattle.std.specs.Prelude.{◌≡◌, ◌++◌, codes};
 ghost use Rattle.std.specs.Fmt.{decimal};
 ghost use Rattle.std.specs.List.{flat_map};
+ghost use Rattle.e3_report.specs.Pages.{Adds};
 ghost use Rattle.e3_report.specs.lines.Events.{answer_text, ended_text, doom_text, refusal_text, refused_text, verdict_text, op_text, election_text, told_of, of_txn, told_text, told_line, why_text, at_site, rise_line, failure_text, failed_rise_line, fall_line, word_line, act_lines, entry_lines};
 
+use crate::Page;
 use crate::lines::texts::{
-    push_kept, push_labelled, push_line, push_line_end, push_number, push_text, push_txn,
-    push_word_and_bytes, push_word_and_dir, push_word_and_sites, push_word_and_state,
+    push_kept, push_word_and_bytes, push_word_and_dir, push_word_and_sites, push_word_and_state,
     push_word_and_txn,
 };
-use e3_types::{Act, Answer, Dir, Entry, List, NoMemory, Refusal, Told, Txn, Verdict, Why};
+use e3_types::{Act, Answer, Dir, Entry, Refusal, Told, Txn, Verdict, Why};
 
-/// Adds the answer to an operation.
-#[tactic(auto, unfolding(crate::specs::lines::Events::answer_text))]
-pub(crate) fn push_answer(out: &mut List<u8>, answer: &Answer) -> Result<(), NoMemory>
-    ensures { OnOk result (out.new ≡ out.old ++ answer_text answer.now) }
-{
-    match answer {
-        Answer::Written => push_text(out, "written"),
-        Answer::Absent => push_text(out, "absent"),
-        Answer::Value(val) => push_word_and_bytes(out, "value ", val.bytes()),
+impl Page {
+    /// Adds the answer to an operation.
+    #[tactic(auto, unfolding(crate::specs::lines::Events::answer_text))]
+    pub fn answer(&mut self, answer: &Answer)
+        ensures { Adds self.old self.new (answer_text answer.now) }
+    {
+        match answer {
+            Answer::Written => self.text("written"),
+            Answer::Absent => self.text("absent"),
+            Answer::Value(val) => push_word_and_bytes(self, "value ", val.bytes()),
+        }
+    }
+
+    /// Adds the transaction, and what is told of it.
+    #[tactic(auto, unfolding(crate::specs::lines::Events::told_text))]
+    pub fn told(&mut self, told: &Told)
+        ensures { Adds self.old self.new (told_text told.now) }
+    {
+        self.txn(of_txn(told));
+        self.text(" ");
+        push_told_of(self, told);
     }
 }
 
 #[tactic(auto, unfolding(crate::specs::lines::Events::ended_text))]
-fn push_ended(out: &mut List<u8>, dir: Dir) -> Result<(), NoMemory>
-    ensures { OnOk result (out.new ≡ out.old ++ ended_text dir) }
+fn push_ended(page: &mut Page, dir: Dir)
+    ensures { Adds page.old page.new (ended_text dir) }
 {
     match dir {
-        Dir::Commit => push_text(out, "committed"),
-        Dir::Abort => push_text(out, "aborted"),
+        Dir::Commit => page.text("committed"),
+        Dir::Abort => page.text("aborted"),
     }
 }
 
 #[tactic(auto, unfolding(crate::specs::lines::Events::doom_text))]
-fn push_doom(out: &mut List<u8>, site: u32, had: u32, now: u32) -> Result<(), NoMemory>
-    ensures { OnOk result (out.new ≡ out.old ++ doom_text site had now) }
+fn push_doom(page: &mut Page, site: u32, had: u32, now: u32)
+    ensures { Adds page.old page.new (doom_text site had now) }
 {
-    push_labelled(out, "doomed ", site as u64)?;
-    push_labelled(out, " ", had as u64)?;
-    push_labelled(out, " ", now as u64)
+    page.labelled("doomed ", site as u64);
+    page.labelled(" ", had as u64);
+    page.labelled(" ", now as u64);
 }
 
 #[tactic(auto, unfolding(crate::specs::lines::Events::refusal_text))]
-fn push_refusal(out: &mut List<u8>, refusal: Refusal) -> Result<(), NoMemory>
-    ensures { OnOk result (out.new ≡ out.old ++ refusal_text refusal) }
+fn push_refusal(page: &mut Page, refusal: Refusal)
+    ensures { Adds page.old page.new (refusal_text refusal) }
 {
     match refusal {
-        Refusal::NoTxn => push_text(out, "no-transaction"),
-        Refusal::Busy { op } => push_labelled(out, "busy ", op as u64),
-        Refusal::Over { dir } => push_word_and_dir(out, "over ", dir),
-        Refusal::Died { older } => push_word_and_txn(out, "died ", &older),
-        Refusal::Doomed { site, had, now } => push_doom(out, site, had, now),
-        Refusal::TooLate { attempt } => push_labelled(out, "too-late ", attempt as u64),
+        Refusal::NoTxn => page.text("no-transaction"),
+        Refusal::Busy { op } => page.labelled("busy ", op as u64),
+        Refusal::Over { dir } => push_word_and_dir(page, "over ", dir),
+        Refusal::Died { older } => push_word_and_txn(page, "died ", &older),
+        Refusal::Doomed { site, had, now } => push_doom(page, site, had, now),
+        Refusal::TooLate { attempt } => page.labelled("too-late ", attempt as u64),
     }
 }
 
 #[tactic(auto, unfolding(crate::specs::lines::Events::refused_text))]
-fn push_refused(out: &mut List<u8>, refusal: Refusal) -> Result<(), NoMemory>
-    ensures { OnOk result (out.new ≡ out.old ++ refused_text refusal) }
+fn push_refused(page: &mut Page, refusal: Refusal)
+    ensures { Adds page.old page.new (refused_text refusal) }
 {
-    push_text(out, "refused ")?;
-    push_refusal(out, refusal)
+    page.text("refused ");
+    push_refusal(page, refusal);
 }
 
 // Adds a word, and how much there is of how much behind it.
-fn push_part_of_whole(out: &mut List<u8>, word: &str, part: u64, whole: u64) -> Result<(), NoMemory>
-    ensures { OnOk result (out.new ≡ out.old ++ (word.now ++ decimal part ++ codes " of " ++ decimal whole)) }
+fn push_part_of_whole(page: &mut Page, word: &str, part: u64, whole: u64)
+    ensures { Adds page.old page.new (word.now ++ decimal part ++ codes " of " ++ decimal whole) }
 {
-    push_labelled(out, word, part)?;
-    push_labelled(out, " of ", whole)
+    page.labelled(word, part);
+    page.labelled(" of ", whole);
 }
 
 #[tactic(auto, unfolding(crate::specs::lines::Events::verdict_text, crate::specs::lines::Events::block_text))]
-fn push_verdict(out: &mut List<u8>, verdict: Verdict) -> Result<(), NoMemory>
-    ensures { OnOk result (out.new ≡ out.old ++ verdict_text verdict) }
+fn push_verdict(page: &mut Page, verdict: Verdict)
+    ensures { Adds page.old page.new (verdict_text verdict) }
 {
     match verdict {
-        Verdict::Abort => push_text(out, "abort"),
-        Verdict::Commit => push_text(out, "commit"),
-        Verdict::PreCommit => push_text(out, "pre-commit"),
-        Verdict::PreAbort => push_text(out, "pre-abort"),
-        Verdict::Block { have, total } => push_part_of_whole(out, "block ", have, total),
+        Verdict::Abort => page.text("abort"),
+        Verdict::Commit => page.text("commit"),
+        Verdict::PreCommit => page.text("pre-commit"),
+        Verdict::PreAbort => page.text("pre-abort"),
+        Verdict::Block { have, total } => push_part_of_whole(page, "block ", have, total),
     }
 }
 
 #[tactic(auto, unfolding(crate::specs::lines::Events::op_text))]
-fn push_op(out: &mut List<u8>, n: u32, answer: &Answer) -> Result<(), NoMemory>
-    ensures { OnOk result (out.new ≡ out.old ++ op_text n answer.now) }
+fn push_op(page: &mut Page, n: u32, answer: &Answer)
+    ensures { Adds page.old page.new (op_text n answer.now) }
 {
-    push_labelled(out, "op ", n as u64)?;
-    push_text(out, " ")?;
-    push_answer(out, answer)
+    page.labelled("op ", n as u64);
+    page.text(" ");
+    page.answer(answer);
 }
 
 #[tactic(auto, unfolding(crate::specs::lines::Events::election_text))]
-fn push_election(out: &mut List<u8>, n: u32, verdict: Verdict) -> Result<(), NoMemory>
-    ensures { OnOk result (out.new ≡ out.old ++ election_text n verdict) }
+fn push_election(page: &mut Page, n: u32, verdict: Verdict)
+    ensures { Adds page.old page.new (election_text n verdict) }
 {
-    push_labelled(out, "election ", n as u64)?;
-    push_text(out, " ")?;
-    push_verdict(out, verdict)
+    page.labelled("election ", n as u64);
+    page.text(" ");
+    push_verdict(page, verdict);
 }
 
 #[tactic(auto, unfolding(crate::specs::lines::Events::told_of, crate::specs::lines::Events::began_text, crate::specs::lines::Events::died_text, crate::specs::lines::Events::kept_state_text))]
-fn push_told_of(out: &mut List<u8>, told: &Told) -> Result<(), NoMemory>
-    ensures { OnOk result (out.new ≡ out.old ++ told_of told.now) }
+fn push_told_of(page: &mut Page, told: &Told)
+    ensures { Adds page.old page.new (told_of told.now) }
 {
     match told {
-        Told::Began { txn } => push_word_and_sites(out, "began ", txn.sites),
-        Told::Op { n, answer, .. } => push_op(out, *n, answer),
-        Told::Ended { dir, .. } => push_ended(out, *dir),
-        Told::Died { older, .. } => push_word_and_txn(out, "died for ", older),
-        Told::Doomed { site, had, now, .. } => push_doom(out, *site, *had, *now),
-        Told::Refused { refusal, .. } => push_refused(out, *refusal),
-        Told::Kept { state, .. } => push_word_and_state(out, "kept ", *state),
-        Told::Verdict { n, verdict, .. } => push_election(out, *n, *verdict),
+        Told::Began { txn } => push_word_and_sites(page, "began ", txn.sites),
+        Told::Op { n, answer, .. } => push_op(page, *n, answer),
+        Told::Ended { dir, .. } => push_ended(page, *dir),
+        Told::Died { older, .. } => push_word_and_txn(page, "died for ", older),
+        Told::Doomed { site, had, now, .. } => push_doom(page, *site, *had, *now),
+        Told::Refused { refusal, .. } => push_refused(page, *refusal),
+        Told::Kept { state, .. } => push_word_and_state(page, "kept ", *state),
+        Told::Verdict { n, verdict, .. } => push_election(page, *n, *verdict),
     }
 }
 
@@ -136,125 +149,107 @@ fn of_txn(told: &Told) -> &Txn
 }
 
 #[tactic(auto, unfolding(crate::specs::lines::Events::at_site))]
-fn push_at_site(out: &mut List<u8>, site: u32) -> Result<(), NoMemory>
-    ensures { OnOk result (out.new ≡ out.old ++ at_site site) }
+fn push_at_site(page: &mut Page, site: u32)
+    ensures { Adds page.old page.new (at_site site) }
 {
-    push_number(out, site as u64)?;
-    push_text(out, ": ")
-}
-
-/// Adds the transaction, and what is told of it.
-#[tactic(auto, unfolding(crate::specs::lines::Events::told_text))]
-pub(crate) fn push_told_text(out: &mut List<u8>, told: &Told) -> Result<(), NoMemory>
-    ensures { OnOk result (out.new ≡ out.old ++ told_text told.now) }
-{
-    push_txn(out, of_txn(told))?;
-    push_text(out, " ")?;
-    push_told_of(out, told)
+    page.number(site as u64);
+    page.text(": ");
 }
 
 #[tactic(auto, unfolding(crate::specs::lines::Events::told_line))]
-fn push_told(out: &mut List<u8>, site: u32, told: &Told) -> Result<(), NoMemory>
-    ensures { OnOk result (out.new ≡ out.old ++ told_line site told.now) }
+fn push_told(page: &mut Page, site: u32, told: &Told)
+    ensures { Adds page.old page.new (told_line site told.now) }
 {
-    push_at_site(out, site)?;
-    push_told_text(out, told)?;
-    push_line_end(out)
+    push_at_site(page, site);
+    page.told(told);
+    page.line_end();
 }
 
-fn push_all_told(out: &mut List<u8>, site: u32, events: &[Told]) -> Result<(), NoMemory>
-    ensures { OnOk result (out.new ≡ out.old ++ flat_map (told_line site) events.now) }
+fn push_all_told(page: &mut Page, site: u32, events: &[Told])
+    ensures { Adds page.old page.new (flat_map (told_line site) events.now) }
 {
     for told in events {
-        push_told(out, site, told)?;
+        push_told(page, site, told);
     }
-    Ok(())
 }
 
 #[tactic(auto, unfolding(crate::specs::lines::Events::why_text))]
-fn push_why(out: &mut List<u8>, why: Why) -> Result<(), NoMemory>
-    ensures { OnOk result (out.new ≡ out.old ++ why_text why) }
+fn push_why(page: &mut Page, why: Why)
+    ensures { Adds page.old page.new (why_text why) }
 {
     match why {
-        Why::Fault => push_text(out, "fault"),
-        Why::Full { need, room } => push_part_of_whole(out, "full ", need, room),
+        Why::Fault => page.text("fault"),
+        Why::Full { need, room } => push_part_of_whole(page, "full ", need, room),
     }
 }
 
 /// Adds a word, and why a site fell behind it.
-pub(crate) fn push_word_and_why(out: &mut List<u8>, word: &str, why: Why) -> Result<(), NoMemory>
-    ensures { OnOk result (out.new ≡ out.old ++ (word.now ++ why_text why)) }
+pub(crate) fn push_word_and_why(page: &mut Page, word: &str, why: Why)
+    ensures { Adds page.old page.new (word.now ++ why_text why) }
 {
-    push_text(out, word)?;
-    push_why(out, why)
+    page.text(word);
+    push_why(page, why);
 }
 
 #[tactic(auto, unfolding(crate::specs::lines::Events::rise_line))]
-fn push_rise(out: &mut List<u8>, site: u32, inc: u32, kept: bool) -> Result<(), NoMemory>
-    ensures { OnOk result (out.new ≡ out.old ++ rise_line site inc kept) }
+fn push_rise(page: &mut Page, site: u32, inc: u32, kept: bool)
+    ensures { Adds page.old page.new (rise_line site inc kept) }
 {
-    push_at_site(out, site)?;
-    push_labelled(out, "rose ", inc as u64)?;
-    push_kept(out, kept)?;
-    push_line_end(out)
+    push_at_site(page, site);
+    page.labelled("rose ", inc as u64);
+    push_kept(page, kept);
+    page.line_end();
 }
 
 #[tactic(auto, unfolding(crate::specs::lines::Events::failure_text))]
-fn push_failure(out: &mut List<u8>, inc: u32, why: Why) -> Result<(), NoMemory>
-    ensures { OnOk result (out.new ≡ out.old ++ failure_text inc why) }
+fn push_failure(page: &mut Page, inc: u32, why: Why)
+    ensures { Adds page.old page.new (failure_text inc why) }
 {
-    push_labelled(out, "rise failed ", inc as u64)?;
-    push_word_and_why(out, " ", why)?;
-    Ok(())
+    page.labelled("rise failed ", inc as u64);
+    push_word_and_why(page, " ", why);
 }
 
 #[tactic(auto, unfolding(crate::specs::lines::Events::failed_rise_line))]
-fn push_failed_rise(
-    out: &mut List<u8>,
-    site: u32,
-    inc: u32,
-    why: Why,
-    kept: bool,
-) -> Result<(), NoMemory>
-    ensures { OnOk result (out.new ≡ out.old ++ failed_rise_line site inc why kept) }
+fn push_failed_rise(page: &mut Page, site: u32, inc: u32, why: Why, kept: bool)
+    ensures { Adds page.old page.new (failed_rise_line site inc why kept) }
 {
-    push_at_site(out, site)?;
-    push_failure(out, inc, why)?;
-    push_kept(out, kept)?;
-    push_line_end(out)
+    push_at_site(page, site);
+    push_failure(page, inc, why);
+    push_kept(page, kept);
+    page.line_end();
 }
 
 #[tactic(auto, unfolding(crate::specs::lines::Events::fall_line))]
-fn push_fall(out: &mut List<u8>, site: u32, why: Why) -> Result<(), NoMemory>
-    ensures { OnOk result (out.new ≡ out.old ++ fall_line site why) }
+fn push_fall(page: &mut Page, site: u32, why: Why)
+    ensures { Adds page.old page.new (fall_line site why) }
 {
-    push_at_site(out, site)?;
-    push_word_and_why(out, "fell ", why)?;
-    push_line_end(out)
+    push_at_site(page, site);
+    push_word_and_why(page, "fell ", why);
+    page.line_end();
 }
 
 /// Adds a line of a site that has one word.
 #[tactic(auto, unfolding(crate::specs::lines::Events::word_line))]
-pub(crate) fn push_word_line(out: &mut List<u8>, site: u32, word: &str) -> Result<(), NoMemory>
-    ensures { OnOk result (out.new ≡ out.old ++ word_line site word.now) }
+pub(crate) fn push_word_line(page: &mut Page, site: u32, word: &str)
+    ensures { Adds page.old page.new (word_line site word.now) }
 {
-    push_at_site(out, site)?;
-    push_line(out, word)
+    push_at_site(page, site);
+    page.line(word);
 }
 
 /// Adds the lines of an entry.
 #[tactic(auto, unfolding(crate::specs::lines::Events::act_lines))]
-pub(crate) fn push_entry(out: &mut List<u8>, entry: &Entry) -> Result<(), NoMemory>
-    ensures { OnOk result (out.new ≡ out.old ++ entry_lines entry.now) }
+pub(crate) fn push_entry(page: &mut Page, entry: &Entry)
+    ensures { Adds page.old page.new (entry_lines entry.now) }
 {
     let site = entry.owner;
     match &entry.act {
-        Act::Step { told, .. } => push_all_told(out, site, told.as_slice()),
-        Act::Fall { why, .. } => push_fall(out, site, *why),
-        Act::Rise { kept, inc } => push_rise(out, site, *inc, *kept),
-        Act::RiseFall { kept, inc, why } => push_failed_rise(out, site, *inc, *why, *kept),
-        Act::Miss => push_word_line(out, site, "missed"),
-        Act::Cut => push_word_line(out, site, "cut"),
-        _ => Ok(()),
+        Act::Step { told, .. } => push_all_told(page, site, told.as_slice()),
+        Act::Fall { why, .. } => push_fall(page, site, *why),
+        Act::Rise { kept, inc } => push_rise(page, site, *inc, *kept),
+        Act::RiseFall { kept, inc, why } => push_failed_rise(page, site, *inc, *why, *kept),
+        Act::Miss => push_word_line(page, site, "missed"),
+        Act::Cut => push_word_line(page, site, "cut"),
+        _ => {}
     }
 }

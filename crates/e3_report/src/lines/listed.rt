@@ -1,10 +1,10 @@
 // What has lines of its own, or words that make a line, and a list of it.
-ghost use Rattle.std.specs.Prelude.{◌≡◌, ◌++◌, ℕ, List as Items, OnOk};
+ghost use Rattle.std.specs.Prelude.{◌++◌, ℕ, List as Items};
 ghost use Rattle.std.specs.List.{flat_map};
+ghost use Rattle.e3_report.specs.Pages.{Adds};
 ghost use Rattle.e3_report.specs.lines.Texts.{line_end};
 
-use crate::lines::texts::{push_line_end, push_text};
-use e3_types::{List, NoMemory};
+use crate::Page;
 
 /// What has lines in a report or a trace.
 pub(crate) trait Lines {
@@ -12,18 +12,17 @@ pub(crate) trait Lines {
     ghost lines: { Self → Items ℕ };
 
     /// Adds its lines. Want of memory is the only error.
-    fn push(&self, out: &mut List<u8>) -> Result<(), NoMemory>
-        ensures { OnOk result (out.new ≡ out.old ++ lines self.now) };
+    fn push(&self, page: &mut Page)
+        ensures { Adds page.old page.new (lines self.now) };
 }
 
 /// Adds the lines of each of these.
-pub(crate) fn push_each<T: Lines>(out: &mut List<u8>, listed: &[T]) -> Result<(), NoMemory>
-    ensures { OnOk result (out.new ≡ out.old ++ flat_map T.lines listed.now) }
+pub(crate) fn push_each<T: Lines>(page: &mut Page, listed: &[T])
+    ensures { Adds page.old page.new (flat_map T.lines listed.now) }
 {
     for one in listed {
-        one.push(out)?;
+        one.push(page);
     }
-    Ok(())
 }
 
 /// What has one line in a report or a trace: words behind a mark that says what the line is.
@@ -32,28 +31,23 @@ pub(crate) trait Marked {
     ghost words: { Self → Items ℕ };
 
     /// Adds its words. Want of memory is the only error.
-    fn push_words(&self, out: &mut List<u8>) -> Result<(), NoMemory>
-        ensures { OnOk result (out.new ≡ out.old ++ words self.now) };
+    fn push_words(&self, page: &mut Page)
+        ensures { Adds page.old page.new (words self.now) };
 }
 
-fn push_marked_line<T: Marked>(out: &mut List<u8>, mark: &str, one: &T) -> Result<(), NoMemory>
-    ensures { OnOk result (out.new ≡ out.old ++ (mark.now ++ T.words one.now ++ line_end)) }
+fn push_marked_line<T: Marked>(page: &mut Page, mark: &str, one: &T)
+    ensures { Adds page.old page.new (mark.now ++ T.words one.now ++ line_end) }
 {
-    push_text(out, mark)?;
-    one.push_words(out)?;
-    push_line_end(out)
+    page.text(mark);
+    one.push_words(page);
+    page.line_end();
 }
 
 /// Adds the line of each of these.
-pub(crate) fn push_marked_lines<T: Marked>(
-    out: &mut List<u8>,
-    mark: &str,
-    listed: &[T],
-) -> Result<(), NoMemory>
-    ensures { OnOk result (out.new ≡ out.old ++ flat_map (λ one. mark.now ++ T.words one ++ line_end) listed.now) }
+pub(crate) fn push_marked_lines<T: Marked>(page: &mut Page, mark: &str, listed: &[T])
+    ensures { Adds page.old page.new (flat_map (λ one. mark.now ++ T.words one ++ line_end) listed.now) }
 {
     for one in listed {
-        push_marked_line(out, mark, one)?;
+        push_marked_line(page, mark, one);
     }
-    Ok(())
 }

@@ -1,5 +1,5 @@
 -- the name's place behind the request, or its first lock
-use Rattle.std.proofs.Common.{◌≡◌, ◌≤◌, ◌<◌, ◌^◌, ◌∙◌, ◌++◌, ◌∷◌, ap, sym, subst, arith, List, ℕ, slice_set}
+use Rattle.std.proofs.Common.{◌≡◌, ◌≤◌, ◌<◌, ◌^◌, ◌∙◌, ◌++◌, ◌∷◌, ap, sym, subst, arith, List, slice_set}
 use Rattle.std.specs.List.{insert}
 use Rattle.e3_types.specs.declared.locks.Grant.{Grant}
 use Rattle.e3_types.specs.Sorted.{IsAt, IsGap}

@@ -1,4 +1,4 @@
-use Rattle.std.proofs.Common.{arith, ap, subst, sym, ℕ, ◌∙◌, ◌≡◌, ◌≤◌, ◌<◌, length, take}
+use Rattle.std.proofs.Common.{arith, ap, subst, sym, ℕ, ◌≤◌, ◌<◌, length, take}
 use Rattle.std.proofs.lemmas.Grind.{common_steps}
 use Rattle.e3_world.specs.Gatherings.{Elections}
 use Rattle.e3_readings.proofs.Counting.{calls_are_few}

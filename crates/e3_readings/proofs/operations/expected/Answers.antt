@@ -1,4 +1,4 @@
-use Rattle.std.proofs.Common.{arith, ap, subst, sym, ℕ, ◌≡◌, ◌≤◌, ◌<◌, length, take}
+use Rattle.std.proofs.Common.{arith, subst, sym, ◌≤◌, ◌<◌, length, take}
 use Rattle.std.proofs.lemmas.Grind.{common_steps}
 use Rattle.e3_world.specs.declared.lives.Expected.{Expected}
 use Rattle.e3_readings.proofs.Counting.{expected_are_few}

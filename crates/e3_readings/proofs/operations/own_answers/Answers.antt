@@ -1,4 +1,4 @@
-use Rattle.std.proofs.Common.{arith, ap, List, subst, sym, ◌∙◌, ◌≡◌, ◌≤◌, length}
+use Rattle.std.proofs.Common.{arith, ap, List, subst, sym, ◌∙◌, ◌≤◌, length}
 use Rattle.e3_world.specs.declared.lives.Performed.{Performed}
 use Rattle.e3_readings.specs.Expecting.{own_expected}
 use Rattle.e3_readings.proofs.Counting.{done_are_few}

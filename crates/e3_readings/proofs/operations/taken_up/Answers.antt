@@ -1,4 +1,4 @@
-use Rattle.std.proofs.Common.{arith, ap, ℕ, List, subst, sym, ◌∙◌, ◌≡◌, ◌≤◌, ◌<◌, length}
+use Rattle.std.proofs.Common.{arith, ap, ℕ, List, subst, sym, ◌∙◌, ◌<◌}
 use Rattle.e3_types.specs.declared.entries.Told.{Told}
 use Rattle.e3_readings.specs.Bringing.{brought, issued_before}
 use Rattle.e3_readings.proofs.Bringing.{taken_is}

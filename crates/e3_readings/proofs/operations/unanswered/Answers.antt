@@ -1,4 +1,4 @@
-use Rattle.std.proofs.Common.{arith, rules, ap, subst, sym, ℕ, List, ◌∙◌, ◌≡◌, ◌≤◌, length, Fits, w32}
+use Rattle.std.proofs.Common.{arith, rules, ap, subst, sym, ℕ, List, ◌∙◌, ◌≤◌, length}
 use Rattle.e3_types.specs.declared.transactions.Op.{Op}
 use Rattle.e3_readings.proofs.Counting.{issued_are_few}
 use Rattle.e3_readings.proofs.operations.unanswered.Goals as goal

@@ -11,8 +11,12 @@ loop-at-preserved c =
     record {
       names = names;
       ups = ups;
-      text = text_one c.args.scenario.now c.args.history.now c.loop-at.at c.index-history-at.result c.enter.new.self
-          c.enter_up.new.ups.keys c.loop-at.out c.push_by_line.new.out _ c.loop-at-test.true c.index-history-at.is names
-          ups
-          c.in_ok-push_by_line.ensures c.loop-at.invariant.text;
+      text = λ whole.
+          let added = c.in_ok-push_by_line.ensures whole in
+          let was = c.loop-at.invariant.text added.0 in (
+            was.0,
+            text_one c.args.scenario.now c.args.history.now c.loop-at.at c.index-history-at.result c.enter.new.self
+                c.enter_up.new.ups.keys c.loop-at.page.text c.push_by_line.new.page.text _ c.loop-at-test.true c.index-history-at.is names
+                ups added.1 was.1,
+          );
     }

@@ -5,4 +5,7 @@ use Rattle.e3_report.proofs.lines.events.push_failure.Goals as goal
 
 pub returns : goal.returns
 unfolding failure_text
-returns c = rw (c.in_ok-push_word_and_why.ensures, c.in_ok-push_labelled.ensures) (simp append_assoc)
+returns c = λ whole.
+    let why = c.push_word_and_why.ensures whole in
+    let inc = c.labelled.ensures why.0 in
+    (inc.0, rw (why.1, inc.1) (simp append_assoc))

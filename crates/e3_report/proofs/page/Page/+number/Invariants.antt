@@ -1,0 +1,4 @@
+use Rattle.e3_report.proofs.page.Page.+number.Given as goal
+
+abbrev pub decreases-number : goal.decreases-number
+decreases-number l = l.number
