@@ -1,8 +1,8 @@
 // The steps of a transaction.
-ghost use Rattle.std.specs.Prelude.{◌≡◌, ◌≤◌, ◌++◌, ◌∷◌, [], ◌%◌, true, length, map, codes, IsTrue, IfOk, OnOk};
+ghost use Rattle.std.specs.Prelude.{◌≡◌, ◌≤◌, ◌++◌, ◌∷◌, [], ◌%◌, true, length, map, IsTrue, IfOk, OnOk};
 ghost use Rattle.std.specs.Fmt.{decimal};
 ghost use Rattle.std.specs.List.{list_all};
-ghost use Rattle.e3_types.specs.Sets.{is_set, others};
+ghost use Rattle.e3_types.specs.Sets.{is_set};
 ghost use Rattle.e3_types.specs.Text.{is_letter};
 ghost use Rattle.e3_gen.specs.Generated.{step_of};
 ghost use Rattle.e3_gen.specs.Items.{five, txn_name, coordinator, sites_of, fellow, key_of, operations, cut_off, crashed, stopped, last_items, items_at, items_of};
@@ -24,7 +24,7 @@ fn numbered(alloc: Global, letter: &str, number: u32) -> Result<Name, NoMemory>
 {
     let mut page = Page::new(alloc);
     page.labelled(letter, number as u64);
-    let text = page.done().ok_or(NoMemory)?;
+    let text = page.done()?;
     Ok(Name::new(text.as_slice()).unwrap())
 }
 
@@ -35,7 +35,7 @@ fn value_of(alloc: Global, number: u32) -> Result<Val, NoMemory>
 {
     let mut page = Page::new(alloc);
     page.number(number as u64);
-    let text = page.done().ok_or(NoMemory)?;
+    let text = page.done()?;
     Ok(Val::new(text.as_slice()).unwrap())
 }
 

@@ -104,5 +104,5 @@ pub fn generated(alloc: Global, n: u32) -> Result<List<u8>, NoMemory>
     push_head(&mut page, n);
     push_steps(&mut page, steps.as_slice());
     page.text("]\n");
-    page.done().ok_or(NoMemory)
+    page.done()
 }

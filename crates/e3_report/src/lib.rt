@@ -1,5 +1,5 @@
 //! The report of a scenario and its history: the text that a run writes. The lines that it is made of, and those of a trace,
-//! stand in `lines`; what a program of the gate prints is a `Page`.
+//! stand in `lines`, and are added to a `Page`, a text that grows.
 #![tactic(auto)]
 
 mod counts;

@@ -1,7 +1,7 @@
 // The records of all logs, gathered in one walk over a history.
-ghost use Rattle.std.specs.Prelude.{◌≡◌, ◌++◌, ◌∷◌, [], OnOk, IfOk, Option};
+ghost use Rattle.std.specs.Prelude.{◌≡◌, [], OnOk, IfOk};
 ghost use Rattle.e3_world.specs.Moves.{birth};
-ghost use Rattle.e3_report.specs.Walk.{no_walk, tail_in, log_in, rise_in, kept_part, doubtful, with_born, and_records, and_tail, and_kept, and_rise, and_failed, walk_act, walk_of};
+ghost use Rattle.e3_report.specs.Walk.{no_walk, tail_in, log_in, rise_in, doubtful, with_born, and_records, and_tail, and_kept, and_rise, and_failed, walk_act, walk_of};
 
 use crate::tables::rows_at;
 use e3_readings::{SiteRecord, add_placed};

@@ -1,5 +1,5 @@
 // The names that the begins of a scenario bind to transactions.
-ghost use Rattle.std.specs.Prelude.{◌≡◌, [], ◌+◌, Option, OnOk, slice_get, suc, option_to_list};
+ghost use Rattle.std.specs.Prelude.{◌≡◌, Option, OnOk, slice_get, option_to_list};
 ghost use Rattle.e3_world.specs.Items.{begin_names, binds};
 ghost use Rattle.e3_report.specs.Names.{no_naming, meant, begins, and_bound, and_begin, naming_by};
 

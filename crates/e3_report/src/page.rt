@@ -1,13 +1,13 @@
 // A text that grows, and remembers whether memory was lacking for any of it. So what adds to it answers nothing, and only its end
 // asks. Reports are made so, and what a program of the gate prints, part by part.
-ghost use Rattle.std.specs.Prelude.{◌≡◌, ◌↔◌, ◌++◌, [], true, false, IfSome, None};
+ghost use Rattle.std.specs.Prelude.{◌≡◌, ◌↔◌, ◌++◌, [], false, IfOk, IsErr};
 ghost use Rattle.std.specs.Fmt.{decimal};
 ghost use Rattle.e3_report.specs.lines.Texts.{line_end};
 ghost use Rattle.e3_report.specs.Pages.{Adds, Reads};
 
 mod programs;
 
-use e3_types::List;
+use e3_types::{List, NoMemory};
 use std::alloc::Global;
 
 /// A text that grows.
@@ -42,12 +42,16 @@ impl Page {
         self.text.as_slice()
     }
 
-    /// All of it; none where memory was lacking.
-    pub fn done(self) -> Option<List<u8>>
-        ensures all { IfSome result (Reads self) }
-        ensures none { (result ≡ None) ↔ (self.is_whole ≡ false) }
+    /// All of it; want of memory exactly where it was lacking for any of it.
+    pub fn done(self) -> Result<List<u8>, NoMemory>
+        ensures all { IfOk result (Reads self) }
+        ensures lacking { IsErr result ↔ self.is_whole ≡ false }
     {
-        if self.is_whole { Some(self.text) } else { None }
+        if self.is_whole {
+            Ok(self.text)
+        } else {
+            Err(NoMemory)
+        }
     }
 
     /// Memory was lacking for what should stand here.

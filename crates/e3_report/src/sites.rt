@@ -8,7 +8,6 @@ ghost use Rattle.e3_world.specs.Moves.{own_entries};
 ghost use Rattle.e3_report.specs.Report.{inc_by, present_inc, site_heading, log_lines};
 
 use crate::Page;
-use crate::lines::push_records;
 use crate::tables::table_of;
 use e3_types::{Act, Entry, NoMemory, Record, Row};
 use std::alloc::Global;

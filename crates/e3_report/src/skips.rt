@@ -1,6 +1,6 @@
 // The lines of a step's items that are skipped.
 ghost use Rattle.std.specs.Prelude.{◌≡◌, ◌++◌, ◌==◌, ◌+◌, [], OnOk, IfOk, count_by, not};
-ghost use Rattle.e3_world.specs.Items.{inputs_of, is_delivery};
+ghost use Rattle.e3_world.specs.Items.{is_delivery};
 ghost use Rattle.e3_report.specs.Pages.{Adds};
 ghost use Rattle.e3_report.specs.Names.{meant};
 ghost use Rattle.e3_report.specs.Skips.{taker_of, items_in, items_taken, not_begun_line, input_skip, power_skip, sites_of, skip_lines};

@@ -1,6 +1,5 @@
 // The part of a report that tells of the start and of the steps.
 ghost use Rattle.std.specs.Prelude.{◌≡◌, [], OnOk};
-ghost use Rattle.std.specs.List.{flat_map};
 ghost use Rattle.e3_world.specs.Packets.{is_line};
 ghost use Rattle.e3_report.specs.Pages.{Adds};
 ghost use Rattle.e3_report.specs.Names.{meant};

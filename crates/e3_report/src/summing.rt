@@ -117,7 +117,7 @@ fn push_summary(page: &mut Page, n: u32, counted: Counted, history: &[Entry])
     page.line("end");
 }
 
-// Adds the summary of a drill.
+/// Adds the summary of a drill.
 fn push_drill(
     alloc: Global,
     page: &mut Page,
@@ -145,5 +145,5 @@ pub fn summary(
 {
     let mut page = Page::new(alloc);
     push_drill(alloc, &mut page, n, scenario, history.as_slice())?;
-    page.done().ok_or(NoMemory)
+    page.done()
 }

@@ -1,5 +1,5 @@
 // Which site takes an item of a step.
-ghost use Rattle.std.specs.Prelude.{◌≡◌, Option};
+ghost use Rattle.std.specs.Prelude.{◌≡◌};
 ghost use Rattle.e3_report.specs.Names.{meant};
 ghost use Rattle.e3_report.specs.Skips.{to_coordinator, to_site, taker_of};
 

@@ -62,7 +62,7 @@ impl Reported<'_> {
     }
 }
 
-// Adds the report without a trace.
+/// Adds the report without a trace.
 fn push_report_alone(
     alloc: Global,
     page: &mut Page,
@@ -107,5 +107,5 @@ pub fn report(
     let mut page = Page::new(alloc);
     push_report_alone(alloc, &mut page, scenario, history.as_slice())?;
     push_trace_lines(&mut page, history.as_slice(), trace);
-    page.done().ok_or(NoMemory)
+    page.done()
 }

@@ -1,10 +1,10 @@
 // The document of a scenario, and the values at its keys.
-ghost use Rattle.std.specs.Prelude.{◌≡◌, ◌≤◌, [], Bool, IfOk, IfSome, IsTrue, length, map, option_map, option_and_then, string_bytes};
+ghost use Rattle.std.specs.Prelude.{◌≡◌, ◌≤◌, [], IfOk, IfSome, IsTrue, length, map, option_map, string_bytes};
 ghost use Rattle.std.specs.BTreeMap.{keys};
 ghost use Rattle.std.specs.List.{list_all};
 ghost use Rattle.toml.specs.Data.{as_integer, get_member};
 ghost use Rattle.toml.specs.View.{view, table_view};
-ghost use Rattle.e3_scenario.specs.Documents.{is_known, keys_known, values_of, is_integer, is_text, is_texts, is_step, is_kind, has_kind, kind_fault, number_within, weight_of, more_weights, weights_of, row_of, row_in, more_rows, number_at, share_at, luck_at, values_or_none, values_at, step_size, sizes_fit, steps_fit};
+ghost use Rattle.e3_scenario.specs.Documents.{is_known, keys_known, values_of, is_integer, is_text, is_texts, is_step, is_kind, has_kind, kind_fault, weight_of, more_weights, weights_of, row_of, row_in, more_rows, number_at, share_at, luck_at, values_or_none, values_at, step_size, sizes_fit, steps_fit};
 
 use crate::faults::Field;
 use crate::parts::key;

@@ -1,7 +1,6 @@
 // The items of a scenario.
 ghost use Rattle.std.specs.Prelude.{◌≡◌, IfOk};
 ghost use Rattle.e3_scenario.specs.Words.{before};
-ghost use Rattle.e3_report.specs.lines.Marks.{space};
 ghost use Rattle.e3_scenario.specs.Items.{begin_of, read_of, write_of, commit_of, cancel_of, expire_of, elect_of, recover_of, split_of, merge_of, crash_of, restart_of, stop_of, transaction_item, site_item, item_by, item_of};
 
 use crate::parts::{count, key, leave, parts, site, sites};

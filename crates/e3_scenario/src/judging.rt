@@ -1,5 +1,5 @@
 // The faults of items.
-ghost use Rattle.std.specs.Prelude.{◌≡◌, ◌∷◌, [], ◌==◌, count_by};
+ghost use Rattle.std.specs.Prelude.{◌≡◌, [], ◌==◌, count_by};
 ghost use Rattle.std.specs.List.{list_all};
 ghost use Rattle.e3_types.specs.Sets.{has_site, is_within};
 ghost use Rattle.e3_scenario.specs.Faults.{named_fault, begin_fault, operation_fault, expire_fault, elect_fault, recover_fault, split_fault, site_fault, stop_fault, item_fault};

@@ -50,5 +50,5 @@ pub fn fault_line(alloc: Global, fault: &ScenarioFault) -> Result<List<u8>, NoMe
     page.text("refused ");
     push_fault(&mut page, fault);
     page.text("\n");
-    page.done().ok_or(NoMemory)
+    page.done()
 }

@@ -1,7 +1,7 @@
 // The names of transactions that begins and operations have given so far.
 ghost use Rattle.std.specs.Prelude.{◌≡◌, ◌++◌, ◌∷◌, [], length, OnOk};
 ghost use Rattle.e3_world.specs.Given.{count_ops};
-ghost use Rattle.e3_scenario.specs.Faults.{has_name, sites_begun};
+ghost use Rattle.e3_scenario.specs.Faults.{sites_begun};
 
 use e3_types::{List, Name, NoMemory, SiteSet};
 use std::alloc::Global;

@@ -1,5 +1,5 @@
 // What the items so far come to.
-ghost use Rattle.std.specs.Prelude.{◌≡◌, ◌++◌, ◌∷◌, ◌+◌, ◌||◌, [], nat_le, length, IfOk, OnOk};
+ghost use Rattle.std.specs.Prelude.{◌≡◌, ◌++◌, ◌+◌, ◌||◌, nat_le, length, IfOk, OnOk};
 ghost use Rattle.std.specs.List.{list_any};
 ghost use Rattle.e3_types.specs.Sets.{is_within};
 ghost use Rattle.e3_world.specs.Given.{count_ops, close_step};

@@ -2,7 +2,7 @@
 ghost use Rattle.std.specs.Prelude.{◌≡◌, ◌≤◌, ◌++◌, [], ◌∷◌, IfOk, OnOk, length, map};
 ghost use Rattle.toml.specs.View.{view};
 ghost use Rattle.e3_scenario.specs.Faults.{take_item};
-ghost use Rattle.e3_scenario.specs.Steps.{or_fault, judged, item_in, with_so_far, items_read, step_read, steps_read};
+ghost use Rattle.e3_scenario.specs.Steps.{judged, item_in, with_so_far, items_read, step_read, steps_read};
 
 use crate::documents::values;
 use crate::faults::ScenarioFault;

@@ -1,5 +1,5 @@
 // The entry whose lines are being read.
-ghost use Rattle.std.specs.Prelude.{◌≡◌, ◌+◌, ◌++◌, ◌∷◌, [], OnOk, option_to_list, None, Some, if◌then◌else◌};
+ghost use Rattle.std.specs.Prelude.{◌≡◌, ◌+◌, OnOk, option_to_list, None, Some, if◌then◌else◌};
 ghost use Rattle.e3_trace.specs.Cuts.{Gives, Leaves};
 ghost use Rattle.e3_trace.specs.Drafts.{grown, records_of, ops_due, is_complete, is_step, act_by, entry_from, draft_of, growing_with, with_record, takes_records, takes_packets, takes_told, with_input, with_packet, with_told};
 ghost use Rattle.e3_trace.specs.Past.{SameOuts, knowing};

@@ -1,5 +1,5 @@
 // What earlier lines tell of transactions: those that began.
-ghost use Rattle.std.specs.Prelude.{◌≡◌, [], OnOk, option_copied};
+ghost use Rattle.std.specs.Prelude.{◌≡◌, [], OnOk};
 ghost use Rattle.e3_trace.specs.Cuts.{pair_of, Gives};
 ghost use Rattle.e3_report.specs.lines.Marks.{space};
 ghost use Rattle.e3_trace.specs.Fields.{named, txn_of, known_told};

@@ -58,7 +58,7 @@ fn push_own(alloc: Global, page: &mut Page, site: &Site, records: &[Record]) {
     let told = brief_bytes(alloc, brief_of_site(alloc, site));
     let short = brief_bytes(alloc, brief(alloc, records));
     if !told.is_whole() || !short.is_whole() {
-        page.lack();
+        return page.lack();
     }
     if told.as_slice() == short.as_slice() {
         page.text("as its brief");

@@ -92,7 +92,7 @@ fn text_of(alloc: Global, steps: &[&str]) -> Page {
 pub fn scenario_of(alloc: Global, steps: &[&str]) -> Option<Scenario>
     ensures { IfSome result IsGiven }
 {
-    let text = text_of(alloc, steps).done()?;
+    let text = text_of(alloc, steps).done().ok()?;
     read_scenario(alloc, text.as_slice()).ok()
 }
 
@@ -106,7 +106,7 @@ fn calls_by(ended: &Ended<MemDisk>) -> Option<Calls> {
 
 // The same by a run of the text of these steps, which says itself how many packets a worker takes.
 fn calls_run<R: Wait + Threads + Sync>(rt: &R, alloc: Global, steps: &[&str]) -> Option<Calls> {
-    let text = text_of(alloc, steps).done()?;
+    let text = text_of(alloc, steps).done().ok()?;
     let ran = played(rt, alloc, &Given::of(text.as_slice()))?;
     let calls = calls_by(&ran.ended);
     drop(ran);

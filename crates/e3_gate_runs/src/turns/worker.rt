@@ -1,7 +1,7 @@
 // A worker has a pass of one owner, and puts marks of this owner.
 ghost use Rattle.std.specs.Prelude.{◌≡◌, ℕ, ◌≤◌, ◌++◌, [], ◌∷◌, IsTrue, MatchBool, length};
 ghost use Rattle.e3_turn.specs.Passes.{IsIdle, SameOwners, last_of, owners_of, seen_by};
-ghost use Rattle.e3_gate_runs.specs.Marks.{IsNext, marks_of, numbered};
+ghost use Rattle.e3_gate_runs.specs.Marks.{marks_of, numbered};
 ghost use Rattle.e3_gate_runs.specs.Workers.{CanWork, Worked};
 
 use crate::turns::journal::{Journal, Mark};

@@ -1,5 +1,5 @@
 // What has lines of its own, or words that make a line, and a list of it.
-ghost use Rattle.std.specs.Prelude.{◌++◌, ℕ, List as Items};
+ghost use Rattle.std.specs.Prelude.{◌++◌, ℕ, List};
 ghost use Rattle.std.specs.List.{flat_map};
 ghost use Rattle.e3_report.specs.Pages.{Adds};
 ghost use Rattle.e3_report.specs.lines.Texts.{line_end};
@@ -9,9 +9,9 @@ use crate::Page;
 /// What has lines in a report or a trace.
 pub(crate) trait Lines {
     /// Its lines.
-    ghost lines: { Self → Items ℕ };
+    ghost lines: { Self → List ℕ };
 
-    /// Adds its lines. Want of memory is the only error.
+    /// Adds its lines.
     fn push(&self, page: &mut Page)
         ensures { Adds page.old page.new (lines self.now) };
 }
@@ -28,9 +28,9 @@ pub(crate) fn push_each<T: Lines>(page: &mut Page, listed: &[T])
 /// What has one line in a report or a trace: words behind a mark that says what the line is.
 pub(crate) trait Marked {
     /// Its words.
-    ghost words: { Self → Items ℕ };
+    ghost words: { Self → List ℕ };
 
-    /// Adds its words. Want of memory is the only error.
+    /// Adds its words.
     fn push_words(&self, page: &mut Page)
         ensures { Adds page.old page.new (words self.now) };
 }

@@ -15,7 +15,7 @@ fn push_after_comma(page: &mut Page, number: u32)
 }
 
 /// Adds numbers with commas between them.
-pub fn push_commas(page: &mut Page, numbers: &[u32])
+pub(crate) fn push_commas(page: &mut Page, numbers: &[u32])
     ensures { Adds page.old page.new (commas numbers.now) }
 {
     if let [first, more @ ..] = numbers {
@@ -172,7 +172,7 @@ pub(crate) fn push_word_and_state(page: &mut Page, word: &str, state: State)
 
 /// Adds what a stop leaves.
 #[tactic(auto, unfolding(crate::specs::lines::Texts::leave_text))]
-pub fn push_leave(page: &mut Page, leave: Leave)
+pub(crate) fn push_leave(page: &mut Page, leave: Leave)
     ensures { Adds page.old page.new (leave_text leave) }
 {
     match leave {

@@ -1,5 +1,6 @@
 // What programs of the gate are given, and how they end.
 use crate::page::Page;
+use e3_types::NoMemory;
 use std::alloc::Global;
 use std::io::{self, Read, Write};
 use std::process::ExitCode;
@@ -69,11 +70,11 @@ impl Page {
     /// memory was lacking.
     pub fn print<R: Print>(self, rt: &R) -> ExitCode {
         match self.done() {
-            Some(text) => match io::writer(rt).write_all(text.as_slice()) {
+            Ok(text) => match io::writer(rt).write_all(text.as_slice()) {
                 Ok(()) => ExitCode::SUCCESS,
                 Err(_) => ExitCode::from(NO_OUTPUT),
             },
-            None => ExitCode::from(NO_MEMORY),
+            Err(NoMemory) => ExitCode::from(NO_MEMORY),
         }
     }
 }

@@ -75,5 +75,5 @@ pub(crate) fn finding_text(alloc: Global, finding: Finding) -> Result<List<u8>, 
 {
     let mut page = Page::new(alloc);
     push_finding(alloc, &mut page, finding);
-    page.done().ok_or(NoMemory)
+    page.done()
 }
